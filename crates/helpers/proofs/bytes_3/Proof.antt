@@ -1,0 +1,28 @@
+use Rattle.format.specs.BytesLaws.{le-split}
+use native.Mathlib.Omega.{arith}
+use borrow.Author.Needs.{needs}
+use Rattle.helpers.proofs.bytes_3.Statement.{statement}
+use Rattle.helpers.proofs.bytes_3.Tie as tie
+
+bytes-2-requires : tie.Need-bytes-2-requires
+bytes-2-requires c κs = search needs
+
+add-bytes-1 : tie.Need-add-bytes-1
+add-bytes-1 c = search needs
+
+bytes-1-requires : tie.Need-bytes-1-requires
+bytes-1-requires c κs = search needs
+
+mul-result : tie.Need-mul-result
+mul-result c = search needs
+
+add-result : tie.Need-add-result
+add-result c = search needs
+
+returns : tie.Need-returns
+returns c = (omega (arith, le-split (c .before .before .before .args .file .now) (c .before .before .before .args .at) 2 1), omega arith)
+
+pub bytes-3-spec : {M : Type 1} → statement M
+bytes-3-spec =
+    tie.close
+    (tie.spec bytes-2-requires add-bytes-1 bytes-1-requires mul-result add-result returns)
