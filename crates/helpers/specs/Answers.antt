@@ -54,5 +54,5 @@ lengthOut (lengths.Value n q) = found n q
 lengthOut lengths.Short = refused 3
 
 -- a number of a width that is given: one above 8 bytes is no number here, and is refused as a width
-unfoldable pub varint : ℕ → Format ℕ
-varint w = check (leb w 8) 1 (number w done)
+abbrev pub sized : ℕ → Format ℕ
+sized w = check (leb w 8) 1 (number w done)

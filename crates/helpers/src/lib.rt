@@ -7,7 +7,7 @@ ghost use lib.ListN.{length};
 ghost use lib.Dec.{leb};
 ghost use Rattle.format.specs.Bytes.{le, nameLength, textLength};
 ghost use Rattle.format.specs.Format.{done, number, skip, name, text, nothing, read};
-ghost use Rattle.helpers.specs.Answers.{u8Out, u16Out, u32Out, u64Out, varintOut, takenOut, lengthOut, varint};
+ghost use Rattle.helpers.specs.Answers.{u8Out, u16Out, u32Out, u64Out, varintOut, takenOut, lengthOut, sized};
 
 // A number of a fixed width, and the position after it; or a field that leaves the file.
 pub enum ReadU8 {
@@ -177,18 +177,29 @@ pub fn le_u64(file: &[u8], at: usize) -> ReadU64
     }
 }
 
+// A number of `size` bytes, where `size` is known to be a width.
+pub fn varint(file: &[u8], at: usize, size: usize) -> ReadU64
+    requires { ⌜ size ≤ 8 ⌝ }
+    ensures { λ r. ⌜ u64Out r ≡ read (now (file .entry)) (number size done) at ⌝ }
+{
+    if has(file, at, size) {
+        ReadU64::Value(bytes_of(file, at, size), at + size)
+    } else {
+        ReadU64::Short
+    }
+}
+
 // A number of `size` bytes; a size above 8 is refused as a width.
 pub fn varint_size(file: &[u8], at: usize, size: usize) -> ReadVarint
-    ensures { λ r. ⌜ varintOut r ≡ read (now (file .entry)) (varint size) at ⌝ }
+    ensures { λ r. ⌜ varintOut r ≡ read (now (file .entry)) (sized size) at ⌝ }
 {
     if 8 < size {
         return ReadVarint::Refused(Refusal::Width);
     }
-    if has(file, at, size) {
-        ReadVarint::Value(bytes_of(file, at, size), at + size)
-    } else {
-        ReadVarint::Refused(Refusal::Short)
-    }
+    let ReadU64::Value(value, next) = varint(file, at, size) else {
+        return ReadVarint::Refused(Refusal::Short);
+    };
+    ReadVarint::Value(value, next)
 }
 
 // `count` bytes are passed over.

@@ -1,0 +1,3 @@
+pub mod DataTypes
+pub mod Answers
+pub mod Facts

@@ -1,0 +1,235 @@
+// The messages that describe an object's links and attributes, and the continuation message: link
+// info, group info, attribute info, continuation (ohdr_message.rs).
+use helpers::ReadU8;
+use helpers::ReadU16;
+use helpers::ReadU64;
+use helpers::le_u8;
+use helpers::le_u16;
+use helpers::varint;
+use parser::State;
+use records::AttributeInfo;
+use records::GroupInfo;
+use records::LinkInfo;
+use records::OptionU16;
+use records::OptionU64;
+use records::Refusal;
+ghost use mathlib.Core.Path.{_≡_};
+ghost use Prim.Native.Nat.{_≤_};
+ghost use Rattle.format.specs.Format.{read};
+ghost use Rattle.helpers.specs.Answers.{u16Out, u64Out};
+ghost use Rattle.parser.specs.States.{Widths};
+ghost use Rattle.ohdr_info.specs.Info.{cond, some16, some64, linkInfo, groupInfo, attributeInfo, continuation};
+ghost use Rattle.ohdr_info.specs.Answers.{linkInfoOut, groupInfoOut, attributeInfoOut, continuationOut};
+
+pub enum LinkInfoRead {
+    Read(LinkInfo, usize),
+    Refused(Refusal),
+}
+
+pub enum GroupInfoRead {
+    Read(GroupInfo, usize),
+    Refused(Refusal),
+}
+
+pub enum AttributeInfoRead {
+    Read(AttributeInfo, usize),
+    Refused(Refusal),
+}
+
+// Where a continuation block stands, and how many bytes it has.
+pub struct Continuation {
+    pub offset: u64,
+    pub length: u64,
+}
+
+pub enum ContinuationRead {
+    Read(Continuation, usize),
+    Refused(Refusal),
+}
+
+// A number of two bytes where it is present, and else zero.
+fn cond_u16(file: &[u8], at: usize, present: bool) -> ReadU16
+    ensures { λ r. ⌜ u16Out r ≡ read (now (file .entry)) (cond present 2) at ⌝ }
+{
+    if present {
+        le_u16(file, at)
+    } else {
+        ReadU16::Value(0, at)
+    }
+}
+
+// A number of `size` bytes where it is present, and else zero.
+fn cond_varint(file: &[u8], at: usize, present: bool, size: usize) -> ReadU64
+    requires { ⌜ size ≤ 8 ⌝ }
+    ensures { λ r. ⌜ u64Out r ≡ read (now (file .entry)) (cond present size) at ⌝ }
+{
+    if present {
+        varint(file, at, size)
+    } else {
+        ReadU64::Value(0, at)
+    }
+}
+
+fn some_u16(present: bool, value: u16) -> OptionU16
+    ensures { λ r. ⌜ r ≡ some16 present value ⌝ }
+{
+    if present {
+        OptionU16::Some(value)
+    } else {
+        OptionU16::None
+    }
+}
+
+fn some_u64(present: bool, value: u64) -> OptionU64
+    ensures { λ r. ⌜ r ≡ some64 present value ⌝ }
+{
+    if present {
+        OptionU64::Some(value)
+    } else {
+        OptionU64::None
+    }
+}
+
+pub fn message_link_info(file: &[u8], at: usize, state: State) -> LinkInfoRead
+    requires { ⌜ Widths state ⌝ }
+    ensures { λ r. ⌜ linkInfoOut r ≡ read (now (file .entry)) (linkInfo state) at ⌝ }
+{
+    let width = state.size_of_offsets;
+    let ReadU8::Value(version, flags_at) = le_u8(file, at) else {
+        return LinkInfoRead::Refused(Refusal::Short);
+    };
+    if version != 0 {
+        return LinkInfoRead::Refused(Refusal::LinkInfo);
+    }
+    let ReadU8::Value(flags, index_at) = le_u8(file, flags_at) else {
+        return LinkInfoRead::Refused(Refusal::Short);
+    };
+    let tracked = flags & 1 != 0;
+    let indexed = flags & 2 != 0;
+    let ReadU64::Value(index, heap_at) = cond_varint(file, index_at, tracked, 8) else {
+        return LinkInfoRead::Refused(Refusal::Short);
+    };
+    let ReadU64::Value(heap, names_at) = varint(file, heap_at, width) else {
+        return LinkInfoRead::Refused(Refusal::Short);
+    };
+    let ReadU64::Value(names, order_at) = varint(file, names_at, width) else {
+        return LinkInfoRead::Refused(Refusal::Short);
+    };
+    let ReadU64::Value(order, next) = cond_varint(file, order_at, indexed, width) else {
+        return LinkInfoRead::Refused(Refusal::Short);
+    };
+    LinkInfoRead::Read(
+        LinkInfo {
+            flags,
+            maximum_creation_index: some_u64(tracked, index),
+            fractal_heap_address: heap,
+            address_btree_index: names,
+            address_btree_order: some_u64(indexed, order),
+        },
+        next,
+    )
+}
+
+pub fn message_group_info(file: &[u8], at: usize) -> GroupInfoRead
+    ensures { λ r. ⌜ groupInfoOut r ≡ read (now (file .entry)) groupInfo at ⌝ }
+{
+    let ReadU8::Value(version, flags_at) = le_u8(file, at) else {
+        return GroupInfoRead::Refused(Refusal::Short);
+    };
+    if version != 0 {
+        return GroupInfoRead::Refused(Refusal::GroupInfo);
+    }
+    let ReadU8::Value(flags, compact_at) = le_u8(file, flags_at) else {
+        return GroupInfoRead::Refused(Refusal::Short);
+    };
+    let phase = flags & 1 != 0;
+    let estimated = flags & 2 != 0;
+    let ReadU16::Value(compact, dense_at) = cond_u16(file, compact_at, phase) else {
+        return GroupInfoRead::Refused(Refusal::Short);
+    };
+    let ReadU16::Value(dense, entries_at) = cond_u16(file, dense_at, phase) else {
+        return GroupInfoRead::Refused(Refusal::Short);
+    };
+    let ReadU16::Value(entries, length_at) = cond_u16(file, entries_at, estimated) else {
+        return GroupInfoRead::Refused(Refusal::Short);
+    };
+    let ReadU16::Value(length, next) = cond_u16(file, length_at, estimated) else {
+        return GroupInfoRead::Refused(Refusal::Short);
+    };
+    GroupInfoRead::Read(
+        GroupInfo {
+            flags,
+            maximum_compact_value: some_u16(phase, compact),
+            minimum_dense_value: some_u16(phase, dense),
+            number_of_entries: some_u16(estimated, entries),
+            length_of_entries: some_u16(estimated, length),
+        },
+        next,
+    )
+}
+
+pub fn message_attribute_info(file: &[u8], at: usize, state: State) -> AttributeInfoRead
+    requires { ⌜ Widths state ⌝ }
+    ensures { λ r. ⌜ attributeInfoOut r ≡ read (now (file .entry)) (attributeInfo state) at ⌝ }
+{
+    let width = state.size_of_offsets;
+    let ReadU8::Value(version, flags_at) = le_u8(file, at) else {
+        return AttributeInfoRead::Refused(Refusal::Short);
+    };
+    if version != 0 {
+        return AttributeInfoRead::Refused(Refusal::AttributeInfo);
+    }
+    let ReadU8::Value(flags, index_at) = le_u8(file, flags_at) else {
+        return AttributeInfoRead::Refused(Refusal::Short);
+    };
+    let tracked = flags & 1 != 0;
+    let indexed = flags & 2 != 0;
+    let ReadU16::Value(index, heap_at) = cond_u16(file, index_at, tracked) else {
+        return AttributeInfoRead::Refused(Refusal::Short);
+    };
+    let ReadU64::Value(heap, names_at) = varint(file, heap_at, width) else {
+        return AttributeInfoRead::Refused(Refusal::Short);
+    };
+    let ReadU64::Value(names, order_at) = varint(file, names_at, width) else {
+        return AttributeInfoRead::Refused(Refusal::Short);
+    };
+    let ReadU64::Value(order, next) = cond_varint(file, order_at, indexed, width) else {
+        return AttributeInfoRead::Refused(Refusal::Short);
+    };
+    AttributeInfoRead::Read(
+        AttributeInfo {
+            flags,
+            maximum_creation_index: index as u64,
+            fractal_heap_address: heap,
+            attribute_name_btree: names,
+            attribute_creation_order_btree: order,
+        },
+        next,
+    )
+}
+
+// The offset is tested before the length is read; their sum must not pass the end-of-file address.
+pub fn message_continuation(file: &[u8], at: usize, state: State) -> ContinuationRead
+    requires { ⌜ Widths state ⌝ }
+    ensures { λ r. ⌜ continuationOut r ≡ read (now (file .entry)) (continuation state) at ⌝ }
+{
+    let offsets = state.size_of_offsets;
+    let lengths = state.size_of_lengths;
+    let end = state.end_of_file_address;
+    let ReadU64::Value(offset, length_at) = varint(file, at, offsets) else {
+        return ContinuationRead::Refused(Refusal::Short);
+    };
+    if !state.is_address_valid(offset) {
+        return ContinuationRead::Refused(Refusal::ContinuationRange);
+    }
+    let ReadU64::Value(length, next) = varint(file, length_at, lengths) else {
+        return ContinuationRead::Refused(Refusal::Short);
+    };
+    if length < 8 {
+        return ContinuationRead::Refused(Refusal::ContinuationRange);
+    }
+    if end - offset < length {
+        return ContinuationRead::Refused(Refusal::ContinuationRange);
+    }
+    ContinuationRead::Read(Continuation { offset, length }, next)
+}
