@@ -5,3 +5,4 @@ pub mod Laws
 pub mod Covers
 pub mod Steps
 pub mod Bits
+pub mod Standing

@@ -1,0 +1,12 @@
+pub mod Message
+pub mod Grammar
+pub mod Table
+pub mod Walk
+pub mod TableLaws
+pub mod WalkLaws
+pub mod Steps
+pub mod Sound
+pub mod Complete
+pub mod Unique
+pub mod Theorems
+pub mod Advance

@@ -1,0 +1,75 @@
+// The first attribute of a table whose name is the wanted one.
+use records::Refusal;
+ghost use Prim.Native.Nat.{_<_, _/_};
+ghost use lib.ListN.{length};
+ghost use Rattle.lookup.specs.Named.{NameAt, Looked};
+
+// The row found, nothing, or a row count that the table has no rows for.
+pub enum LookupAnswer {
+    At(usize),
+    Nothing,
+    Refused(Refusal),
+}
+
+// The position of a row's name.
+enum RowName {
+    At(usize),
+    Nothing,
+}
+
+// Where the name of row i stands, if the row is an attribute and its name has `wanted` bytes, all
+// of them in the file. The room after the position is tested, so that no sum can wrap.
+fn row_name(file: &[u8], table: &[u64], i: usize, wanted: usize) -> RowName
+    requires { ⌜ i < length (now table) / 10 ⌝ }
+    ensures { λ r. ⌜ NameAt (now (file .entry)) (now (table .entry)) wanted i r ⌝ }
+{
+    let row = i * 10;
+    let kind = table[row];
+    if kind != 12 {
+        return RowName::Nothing;
+    }
+    let present = table[row + 4];
+    if present != 1 {
+        return RowName::Nothing;
+    }
+    let bytes = table[row + 6] as usize;
+    if bytes != wanted {
+        return RowName::Nothing;
+    }
+    let position = table[row + 5] as usize;
+    if file.len() < position {
+        return RowName::Nothing;
+    }
+    if file.len() - position < wanted {
+        return RowName::Nothing;
+    }
+    RowName::At(position)
+}
+
+// The first of the `rows` rows of the table whose name in the file is `name`. A row is ten words:
+// type, flags, size, body position, name present, name position, name length, part present, part
+// position, part length.
+pub fn lookup(file: &[u8], table: &[u64], rows: usize, name: &[u8]) -> LookupAnswer
+    ensures { λ r. ⌜ Looked (now (file .entry)) (now (table .entry)) rows (now (name .entry)) r ⌝ }
+{
+    if table.len() / 10 < rows {
+        return LookupAnswer::Refused(Refusal::Table);
+    }
+    let mut next = 0;
+    'rows: while next < rows {
+        let row = next;
+        next += 1;
+        let RowName::At(position) = row_name(file, table, row, name.len()) else {
+            continue 'rows;
+        };
+        let mut k = 0;
+        while k < name.len() {
+            if file[position + k] != name[k] {
+                continue 'rows;
+            }
+            k += 1;
+        }
+        return LookupAnswer::At(row);
+    }
+    LookupAnswer::Nothing
+}

@@ -1,0 +1,4 @@
+pub mod DataSpaces
+pub mod Answers
+pub mod Facts
+pub mod Bounds

@@ -1,0 +1,321 @@
+// The dataspace message (ohdr_message.rs, message_data_space), and the number of a dataspace's
+// elements.
+use helpers::Place;
+use helpers::ReadU8;
+use helpers::ReadU64;
+use helpers::Taken;
+use helpers::le_u8;
+use helpers::take;
+use helpers::varint;
+use parser::State;
+use records::DataSpace;
+use records::Dimensions;
+use records::OptionU8;
+use records::Refusal;
+ghost use mathlib.Core.Path.{_≡_};
+ghost use mathlib.Core.Bool.{_&&_, _||_};
+ghost use Prim.Native.Nat.{ℕ, _*_, _≤_};
+ghost use lib.Dec.{eqb};
+ghost use Rattle.format.specs.Bits.{bit};
+ghost use Rattle.format.specs.Format.{read, refused};
+ghost use Rattle.records.specs.Refusals.{refusalNumber};
+ghost use Rattle.parser.specs.States.{Widths};
+ghost use Rattle.ohdr_dataspace.specs.DataSpaces.{unlimited as allOnes, dimension as dimensionFormat, dimensions as dimensionsFormat, kind as kindFormat, maximumSizes, dataSpaceHeader, dataSpaceSizes, dataSpace, elements as elementsOf};
+ghost use Rattle.ohdr_dataspace.specs.Answers.{dimensionOut, dimensionsOut, kindOut, headerOut, dataSpaceOut, countOf};
+
+// One size, and the position after it.
+pub enum DimensionRead {
+    Value(u64, usize),
+    Refused(Refusal),
+}
+
+// An answer with an array stands beside its enum.
+pub struct DimensionsRead {
+    pub answer: Place,
+    pub dimensions: Dimensions,
+}
+
+pub enum KindRead {
+    Value(OptionU8, usize),
+    Short,
+}
+
+// What stands before the sizes.
+pub struct DataSpaceHeader {
+    pub dimensionality: u8,
+    pub flags: u8,
+    pub kind: OptionU8,
+}
+
+pub enum HeaderRead {
+    Read(DataSpaceHeader, usize),
+    Refused(Refusal),
+}
+
+pub struct DataSpaceRead {
+    pub answer: Place,
+    pub data_space: DataSpace,
+}
+
+// A number of elements, or one from 2^64 up.
+pub enum ElementCount {
+    Count(u64),
+    TooMany,
+}
+
+// All ones in `width` bytes.
+fn unlimited(width: usize) -> u64
+    requires { ⌜ width ≤ 8 ⌝ }
+    ensures { λ r. ⌜ r ≡ allOnes width ⌝ }
+{
+    match width {
+        0 => 0,
+        1 => 0xff,
+        2 => 0xffff,
+        3 => 0xff_ffff,
+        4 => 0xffff_ffff,
+        5 => 0xff_ffff_ffff,
+        6 => 0xffff_ffff_ffff,
+        7 => 0xff_ffff_ffff_ffff,
+        _ => 0xffff_ffff_ffff_ffff,
+    }
+}
+
+// One size; a maximum size may be unlimited.
+fn dimension(file: &[u8], at: usize, width: usize, maximum: bool) -> DimensionRead
+    requires { ⌜ width ≤ 8 ⌝ }
+    ensures { λ r. ⌜ dimensionOut r ≡ read (now (file .entry)) (dimensionFormat width maximum) at ⌝ }
+{
+    let ReadU64::Value(size, next) = varint(file, at, width) else {
+        return DimensionRead::Refused(Refusal::Short);
+    };
+    if size <= 1000000 {
+        return DimensionRead::Value(size, next);
+    }
+    if !maximum {
+        return DimensionRead::Refused(Refusal::DataSpace);
+    }
+    if size == unlimited(width) {
+        DimensionRead::Value(size, next)
+    } else {
+        DimensionRead::Refused(Refusal::DataSpace)
+    }
+}
+
+// `count` sizes.
+fn dimensions(file: &[u8], at: usize, count: u8, width: usize, maximum: bool) -> DimensionsRead
+    requires { ⌜ (count ≤ 4) × (width ≤ 8) ⌝ }
+    ensures { λ r. ⌜ dimensionsOut r ≡ read (now (file .entry)) (dimensionsFormat count width maximum) at ⌝ }
+{
+    let mut sizes = [0u64; 4];
+    let mut place = at;
+    let mut i: usize = 0;
+    let n = count as usize;
+    while i < n {
+        match dimension(file, place, width, maximum) {
+            DimensionRead::Refused(r) => {
+                return DimensionsRead {
+                    answer: Place::Refused(r),
+                    dimensions: Dimensions {
+                        sizes: [0; 4],
+                        count: 0,
+                    },
+                };
+            }
+            DimensionRead::Value(size, next) => {
+                sizes[i] = size;
+                place = next;
+            }
+        }
+        i = i + 1;
+    }
+    DimensionsRead {
+        answer: Place::At(place),
+        dimensions: Dimensions { sizes, count },
+    }
+}
+
+// Reserved bytes in version 1, the kind in version 2.
+fn kind(file: &[u8], at: usize, version: u8) -> KindRead
+    ensures { λ r. ⌜ kindOut r ≡ read (now (file .entry)) (kindFormat version) at ⌝ }
+{
+    if version == 1 {
+        let Taken::At(next) = take(file, at, 5) else {
+            return KindRead::Short;
+        };
+        return KindRead::Value(OptionU8::None, next);
+    }
+    let ReadU8::Value(value, next) = le_u8(file, at) else {
+        return KindRead::Short;
+    };
+    KindRead::Value(OptionU8::Some(value), next)
+}
+
+fn known_version(version: u8) -> bool
+    ensures { λ r. ⌜ r ≡ (eqb version 1 || eqb version 2) ⌝ }
+{
+    version == 1 || version == 2
+}
+
+// Permutation indices follow, which only version 1 has.
+fn permuted(version: u8, flags: u8) -> bool
+    ensures { λ r. ⌜ r ≡ (eqb version 1 && bit flags 1) ⌝ }
+{
+    if version != 1 {
+        return false;
+    }
+    flags & 2 != 0
+}
+
+fn data_space_header(file: &[u8], at: usize) -> HeaderRead
+    ensures { λ r. ⌜ headerOut r ≡ read (now (file .entry)) dataSpaceHeader at ⌝ }
+{
+    let ReadU8::Value(version, dimensionality_at) = le_u8(file, at) else {
+        return HeaderRead::Refused(Refusal::Short);
+    };
+    if !known_version(version) {
+        return HeaderRead::Refused(Refusal::DataSpace);
+    }
+    let ReadU8::Value(dimensionality, flags_at) = le_u8(file, dimensionality_at) else {
+        return HeaderRead::Refused(Refusal::Short);
+    };
+    if 4 < dimensionality {
+        return HeaderRead::Refused(Refusal::DataSpace);
+    }
+    let ReadU8::Value(flags, kind_at) = le_u8(file, flags_at) else {
+        return HeaderRead::Refused(Refusal::Short);
+    };
+    if permuted(version, flags) {
+        return HeaderRead::Refused(Refusal::DataSpace);
+    }
+    let KindRead::Value(kind, next) = kind(file, kind_at, version) else {
+        return HeaderRead::Refused(Refusal::Short);
+    };
+    HeaderRead::Read(
+        DataSpaceHeader {
+            dimensionality,
+            flags,
+            kind,
+        },
+        next,
+    )
+}
+
+// The maximum sizes, or none.
+fn maximum_sizes(file: &[u8], at: usize, count: u8, width: usize, present: bool) -> DimensionsRead
+    requires { ⌜ (count ≤ 4) × (width ≤ 8) ⌝ }
+    ensures { λ r. ⌜ dimensionsOut r ≡ read (now (file .entry)) (maximumSizes count width present) at ⌝ }
+{
+    if present {
+        return dimensions(file, at, count, width, true);
+    }
+    DimensionsRead {
+        answer: Place::At(at),
+        dimensions: Dimensions::none(),
+    }
+}
+
+// A refused dataspace: the record is the default one.
+fn no_data_space(r: Refusal) -> DataSpaceRead
+    ensures { λ a. ⌜ dataSpaceOut a ≡ refused (refusalNumber r) ⌝ }
+{
+    DataSpaceRead {
+        answer: Place::Refused(r),
+        data_space: DataSpace::default(),
+    }
+}
+
+// What stands after the header.
+fn data_space_sizes(file: &[u8], at: usize, header: DataSpaceHeader, width: usize) -> DataSpaceRead
+    requires { ⌜ (header .dimensionality ≤ 4) × (width ≤ 8) ⌝ }
+    ensures { λ r. ⌜ dataSpaceOut r ≡ read (now (file .entry)) (dataSpaceSizes width header) at ⌝ }
+{
+    let sizes = dimensions(file, at, header.dimensionality, width, false);
+    let sizes_end = sizes.answer;
+    let maximum_at = match sizes_end {
+        Place::At(next) => next,
+        Place::Refused(r) => {
+            return no_data_space(r);
+        }
+    };
+    let present = header.flags & 1 != 0;
+    let maximum = maximum_sizes(file, maximum_at, header.dimensionality, width, present);
+    let maximum_end = maximum.answer;
+    let end = match maximum_end {
+        Place::At(next) => next,
+        Place::Refused(r) => {
+            return no_data_space(r);
+        }
+    };
+    let dimension_size = sizes.dimensions;
+    let dimension_max_size = maximum.dimensions;
+    let kind = header.kind;
+    DataSpaceRead {
+        answer: Place::At(end),
+        data_space: DataSpace {
+            dimension_size,
+            dimension_max_size,
+            dimensionality: header.dimensionality,
+            flags: header.flags,
+            kind,
+        },
+    }
+}
+
+pub fn message_data_space(file: &[u8], at: usize, state: State) -> DataSpaceRead
+    requires { ⌜ Widths state ⌝ }
+    ensures { λ r. ⌜ dataSpaceOut r ≡ read (now (file .entry)) (dataSpace state) at ⌝ }
+{
+    match data_space_header(file, at) {
+        HeaderRead::Read(header, next) => {
+            data_space_sizes(file, next, header, state.size_of_lengths)
+        }
+        HeaderRead::Refused(r) => no_data_space(r),
+    }
+}
+
+// The product of two numbers.
+fn multiply(a: u64, b: u64) -> ElementCount
+    ensures { λ r. ⌜ r ≡ countOf (a * b) ⌝ }
+{
+    if a == 0 {
+        return ElementCount::Count(0);
+    }
+    if 0xffff_ffff_ffff_ffff / a < b {
+        return ElementCount::TooMany;
+    }
+    ElementCount::Count(a * b)
+}
+
+// `n` times as many. Too many, taken no times, are none.
+pub fn times(elements: ElementCount, n: u64) -> ElementCount
+    ensures { λ r. ⌜ ((m : ℕ) → elements ≡ countOf m → r ≡ countOf (m * n)) ⌝ }
+{
+    match elements {
+        ElementCount::Count(count) => multiply(count, n),
+        ElementCount::TooMany => {
+            if n == 0 {
+                return ElementCount::Count(0);
+            }
+            ElementCount::TooMany
+        }
+    }
+}
+
+// How many elements a dataspace has: the product of its sizes, 1 if it has none.
+pub fn elements(space: DataSpace) -> ElementCount
+    ensures { λ r. ⌜ r ≡ countOf (elementsOf space) ⌝ }
+{
+    let dimensions = space.dimension_size;
+    let n = dimensions.count as usize;
+    let mut count = ElementCount::Count(1);
+    let mut i: usize = 0;
+    while i < 4 {
+        if n <= i {
+            return count;
+        }
+        count = times(count, dimensions.sizes[i]);
+        i = i + 1;
+    }
+    count
+}

@@ -1,0 +1,10 @@
+-- What the answers of the readers mean. Assumes nothing: these are definitions.
+use Rattle.format.specs.Format.{Out, found, refused}
+use Rattle.records.specs.Refusals.{refusalNumber}
+use Rattle.records.specs.declared.Part.{Part}
+use Rattle.ohdr_storage.specs.declared.PartRead.{PartRead}
+use Rattle.ohdr_storage.specs.declared.PartRead.the-variants as parts
+
+abbrev pub partOut : PartRead → Out Part
+partOut (parts.Read v q) = found v q
+partOut (parts.Refused r) = refused (refusalNumber r)
