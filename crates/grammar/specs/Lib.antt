@@ -10,3 +10,4 @@ pub mod Complete
 pub mod Unique
 pub mod Theorems
 pub mod Advance
+pub mod Each

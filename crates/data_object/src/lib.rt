@@ -1,0 +1,176 @@
+// Decoding an object header into a lent table (data_object.rs, data_object and
+// build_data_object_from_messages), and the bytes of its data.
+use data_object_records::FieldsRead;
+use data_object_records::header_fields;
+use data_object_records::winning_attribute_info;
+use data_object_records::winning_data;
+use data_object_records::winning_data_space;
+use data_object_records::winning_data_type;
+use data_object_records::winning_group_info;
+use data_object_records::winning_link_info;
+use ohdr_entry::Header;
+use ohdr_entry::Progress;
+use ohdr_entry::Walk;
+use ohdr_entry::collect_all_messages;
+use ohdr_storage::contiguous_bytes;
+use parser::NewState;
+use parser::State;
+use records::AttributeInfo;
+use records::DataSpace;
+use records::DataType;
+use records::GroupInfo;
+use records::LinkInfo;
+use records::Part;
+use records::Refusal;
+ghost use mathlib.Core.Path.{_≡_};
+ghost use Prim.Native.Nat.{_/_, _≤_};
+ghost use lib.ListN.{length, replicate};
+ghost use Rattle.parser.specs.States.{Widths};
+ghost use Rattle.ohdr_entry.specs.Code.{walkOut};
+ghost use Rattle.data_object_records.specs.Headers.{header as headerOf};
+ghost use Rattle.data_object.specs.Decoded.{Decoded, bytesOf};
+ghost use Rattle.data_object.specs.DecodedLaws.{Built, Back};
+
+// The next position and the entries read, or why the header is turned back.
+pub enum Answer {
+    Read(usize, usize),
+    Refused(Refusal),
+}
+
+// An object header: the answer, and the records that win; the defaults where it is turned back.
+pub struct DataObject {
+    pub answer: Answer,
+    pub dt: DataType,
+    pub ds: DataSpace,
+    pub li: LinkInfo,
+    pub ai: AttributeInfo,
+    pub gi: GroupInfo,
+    pub data: Part,
+}
+
+// Every word zero.
+fn clear(table: &mut [u64])
+    ensures { λ _. ⌜ now (table .exit) ≡ replicate (length (now (table .entry))) 0 ⌝ }
+{
+    let mut i: usize = 0;
+    while i < table.len() {
+        table[i] = 0;
+        i += 1;
+    }
+}
+
+// A header that is turned back hands no record out.
+fn turned_back(refusal: Refusal) -> DataObject
+    ensures { λ r. ⌜ Back refusal r ⌝ }
+{
+    let dt = DataType::default();
+    let ds = DataSpace::default();
+    let li = LinkInfo::default();
+    let ai = AttributeInfo::default();
+    let gi = GroupInfo::default();
+    DataObject {
+        answer: Answer::Refused(refusal),
+        dt,
+        ds,
+        li,
+        ai,
+        gi,
+        data: Part {
+            position: 0,
+            length: 0,
+        },
+    }
+}
+
+// The header's fields, and then its messages.
+fn header_messages(file: &[u8], table: &mut [u64], position: usize, state: State) -> Walk
+    requires { ⌜ Widths state × (length (now file) ≤ 2147483648) ⌝ }
+    ensures { λ r. ⌜ walkOut r (now (table .exit)) ≡ headerOf (now (file .entry)) state position (now (table .entry)) ⌝ }
+{
+    match header_fields(file, position) {
+        FieldsRead::Refused(r) => Walk::Refused(r),
+        FieldsRead::Read(fields, start) => {
+            let end = start + fields.size as usize;
+            let header = Header {
+                state,
+                flags: fields.flags,
+            };
+            collect_all_messages(file, table, header, start, end)
+        }
+    }
+}
+
+// The records that win among the messages of a table.
+fn build_data_object_from_messages(
+    file: &[u8],
+    table: &[u64],
+    progress: Progress,
+    state: State,
+) -> DataObject
+    requires { ⌜ Widths state × (progress .rows ≤ length (now table) / 10) ⌝ }
+    ensures { λ r. ⌜ Built (now (file .entry)) (now (table .entry)) progress state r ⌝ }
+{
+    let rows = progress.rows;
+    let dt = winning_data_type(file, table, rows);
+    let ds = winning_data_space(file, table, rows, state);
+    let li = winning_link_info(file, table, rows, state);
+    let ai = winning_attribute_info(file, table, rows, state);
+    let gi = winning_group_info(file, table, rows);
+    let data = winning_data(file, table, rows, state);
+    DataObject {
+        answer: Answer::Read(progress.at, progress.entries),
+        dt,
+        ds,
+        li,
+        ai,
+        gi,
+        data,
+    }
+}
+
+// An object header at a position. Its messages go into the table, one a row, then zeros; a header
+// that is turned back leaves the table all zero.
+pub fn data_object(
+    file: &[u8],
+    position: u64,
+    offset_width: u64,
+    length_width: u64,
+    end_of_file: u64,
+    table: &mut [u64],
+) -> DataObject
+    ensures { λ r. ⌜ Decoded (now (file .entry)) «offset_width» «length_width» «end_of_file» position (length (now (table .entry))) r (now (table .exit)) ⌝ }
+{
+    clear(table);
+    let state = match State::new(offset_width, length_width, end_of_file) {
+        NewState::Made(s) => s,
+        NewState::Refused(r) => {
+            return turned_back(r);
+        }
+    };
+    if 2147483648 < file.len() {
+        return turned_back(Refusal::FileSize);
+    }
+    match header_messages(file, table, position as usize, state) {
+        Walk::Refused(r) => {
+            clear(table);
+            turned_back(r)
+        }
+        Walk::Done(progress) => build_data_object_from_messages(file, table, progress, state),
+    }
+}
+
+// The bytes of a part, as a part of the caller's file; none where it leaves the file.
+pub fn layout_data(file: &[u8], part: Part) -> &[u8]
+    ensures { λ r. ⌜ now r ≡ bytesOf (now (file .entry)) part ⌝ }
+{
+    let position = part.position;
+    let length = part.length;
+    if file.len() < position {
+        return &file[..0];
+    }
+    if file.len() - position < length {
+        return &file[..0];
+    }
+    let from = &file[position..];
+    contiguous_bytes(from, length)
+}

@@ -1,0 +1,31 @@
+use Rattle.format.specs.Steps.{read-number, read-done, read-refuse}
+use borrow.Author.Tests.{eq-eqb, ne-eqb}
+use Rattle.data_object_records.specs.Headers.{ohdr}
+use borrow.Author.Needs.{needs}
+use Rattle.data_object_records.proofs.ohdr_signature.Statement.{statement}
+use Rattle.data_object_records.proofs.ohdr_signature.Tie as tie
+
+le-u32-requires : tie.Need-le-u32-requires
+le-u32-requires c κs = search needs
+
+enum-known-mark : tie.Need-enum-known-mark
+enum-known-mark c = search needs
+
+enum-told : tie.Need-enum-told
+enum-told c = search needs
+
+returns : tie.Need-returns
+unfolding ohdr
+returns c = rw (read-number, ← c .before .before .le-u32 .ensures, c .enum-told .given .1)
+
+returns-2 : tie.Need-returns-2
+unfolding ohdr
+returns-2 c = rw (read-number, ← c .before .before .before .before .le-u32 .ensures, c .before .before .mark .given .1, ne-eqb _ _ (c .if1 .taken), read-refuse)
+
+returns-3 : tie.Need-returns-3
+unfolding ohdr
+returns-3 c = rw (read-number, ← c .before .before .before .before .le-u32 .ensures, c .before .before .mark .given .1, eq-eqb _ _ (c .if1 .left), read-done)
+
+pub ohdr-signature-spec : {M : Type 1} → statement M
+ohdr-signature-spec =
+    tie.close (tie.spec le-u32-requires enum-known-mark enum-told returns returns-2 returns-3)

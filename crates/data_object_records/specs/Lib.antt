@@ -1,0 +1,6 @@
+pub mod Headers
+pub mod HeaderLaws
+pub mod Winners
+pub mod WinnerLaws
+pub mod Answers
+pub mod Facts

@@ -1,0 +1,22 @@
+-- Where the last message of a type has its body, and the record that is read there. Assumes nothing: these are definitions.
+use Prim.Native.Nat.{ℕ, zero, suc, _+_, _*_}
+use mathlib.Core.List.{List, [], _∷_}
+use lib.ListN.{getD}
+use lib.Dec.{eqb}
+use Rattle.format.specs.Format.{Format, pick, Out, found, refused, read}
+use Rattle.data_object_records.specs.declared.LastBody.{LastBody}
+use Rattle.data_object_records.specs.declared.LastBody.the-variants as bodies
+
+-- in the first n rows of a table
+unfoldable pub lastIn : List ℕ → ℕ → ℕ → LastBody
+lastIn t type zero = bodies.Nothing
+lastIn t type (suc n) = pick (eqb (getD t (n * 10) 0) type) (bodies.At (getD t (n * 10 + 3) 0)) (lastIn t type n)
+
+abbrev pub valueOr : {A : Type 0} → A → Out A → A
+valueOr a (found x q) = x
+valueOr a (refused n) = a
+
+-- the record that a format reads there, and another where there is none
+abbrev pub winner : {A : Type 0} → List ℕ → Format A → A → LastBody → A
+winner file F a (bodies.At b) = valueOr a (read file F b)
+winner file F a bodies.Nothing = a

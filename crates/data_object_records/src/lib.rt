@@ -1,0 +1,233 @@
+// The fields of an object header, and the records that win among its messages (data_object.rs,
+// data_object and build_data_object_from_messages).
+use helpers::Place;
+use helpers::ReadU8;
+use helpers::ReadU32;
+use helpers::ReadU64;
+use helpers::Taken;
+use helpers::le_u8;
+use helpers::le_u32;
+use helpers::take;
+use helpers::varint;
+use ohdr_dataspace::message_data_space;
+use ohdr_datatype::DataTypeRead;
+use ohdr_datatype::message_data_type;
+use ohdr_info::AttributeInfoRead;
+use ohdr_info::GroupInfoRead;
+use ohdr_info::LinkInfoRead;
+use ohdr_info::message_attribute_info;
+use ohdr_info::message_group_info;
+use ohdr_info::message_link_info;
+use ohdr_storage::PartRead;
+use ohdr_storage::message_data_layout;
+use parser::State;
+use records::AttributeInfo;
+use records::DataSpace;
+use records::DataType;
+use records::GroupInfo;
+use records::LinkInfo;
+use records::Part;
+use records::Refusal;
+ghost use mathlib.Core.Path.{_≡_};
+ghost use Prim.Native.Nat.{_/_, _≤_, _^_, _%_};
+ghost use lib.ListN.{length};
+ghost use Rattle.format.specs.Bits.{bit};
+ghost use Rattle.format.specs.Format.{read, pick};
+ghost use Rattle.helpers.specs.Answers.{placeOut};
+ghost use Rattle.records.specs.Defaults.{defaultDataSpace, defaultLinkInfo, defaultGroupInfo, defaultAttributeInfo, defaultDataType};
+ghost use Rattle.parser.specs.States.{Widths};
+ghost use Rattle.ohdr_info.specs.Info.{linkInfo, groupInfo, attributeInfo};
+ghost use Rattle.ohdr_storage.specs.Storage.{dataLayout, emptyPart};
+ghost use Rattle.ohdr_datatype.specs.DataTypes.{dataType};
+ghost use Rattle.ohdr_dataspace.specs.DataSpaces.{dataSpace};
+ghost use Rattle.data_object_records.specs.Headers.{ohdr, headerFields};
+ghost use Rattle.data_object_records.specs.Winners.{lastIn, winner};
+ghost use Rattle.data_object_records.specs.Answers.{fieldsOut};
+
+// The flags and the chunk size of a header.
+pub struct HeaderFields {
+    pub flags: u8,
+    pub size: u64,
+}
+
+pub enum FieldsRead {
+    Read(HeaderFields, usize),
+    Refused(Refusal),
+}
+
+// Where the last message of a type has its body.
+pub enum LastBody {
+    At(usize),
+    Nothing,
+}
+
+// `OHDR` at a position.
+fn ohdr_signature(file: &[u8], at: usize) -> Place
+    ensures { λ r. ⌜ placeOut r ≡ read (now (file .entry)) ohdr at ⌝ }
+{
+    let ReadU32::Value(mark, next) = le_u32(file, at) else {
+        return Place::Refused(Refusal::Short);
+    };
+    if mark != 0x5244484F {
+        return Place::Refused(Refusal::Signature);
+    }
+    Place::At(next)
+}
+
+// The bytes of the times, where flag bit 5 is set.
+fn times_size(flags: u8) -> usize
+    ensures { λ r. ⌜ r ≡ pick (bit flags 5) 16 0 ⌝ }
+{
+    if flags & 32 != 0 { 16 } else { 0 }
+}
+
+// Flag bits 0 and 1 give the width of the chunk size.
+fn chunk_size_width(flags: u8) -> usize
+    ensures { λ r. ⌜ (r ≡ 2 ^ (flags % 4)) × (r ≤ 8) ⌝ }
+{
+    1usize << (flags & 3)
+}
+
+// Signature, version, flags and chunk size.
+pub fn header_fields(file: &[u8], at: usize) -> FieldsRead
+    ensures { λ r. ⌜ fieldsOut r ≡ read (now (file .entry)) headerFields at ⌝ }
+{
+    let version_at = match ohdr_signature(file, at) {
+        Place::At(p) => p,
+        Place::Refused(r) => {
+            return FieldsRead::Refused(r);
+        }
+    };
+    let ReadU8::Value(version, flags_at) = le_u8(file, version_at) else {
+        return FieldsRead::Refused(Refusal::Short);
+    };
+    if version != 2 {
+        return FieldsRead::Refused(Refusal::Version);
+    }
+    let ReadU8::Value(flags, times_at) = le_u8(file, flags_at) else {
+        return FieldsRead::Refused(Refusal::Short);
+    };
+    if flags & 16 != 0 {
+        return FieldsRead::Refused(Refusal::HeaderFlags);
+    }
+    let Taken::At(size_at) = take(file, times_at, times_size(flags)) else {
+        return FieldsRead::Refused(Refusal::Short);
+    };
+    let ReadU64::Value(size, start) = varint(file, size_at, chunk_size_width(flags)) else {
+        return FieldsRead::Refused(Refusal::Short);
+    };
+    if 16777216 < size {
+        return FieldsRead::Refused(Refusal::ChunkSize);
+    }
+    FieldsRead::Read(HeaderFields { flags, size }, start)
+}
+
+// Where the last of the first `rows` rows with a type has its body.
+fn last_body(table: &[u64], rows: usize, kind: u64) -> LastBody
+    requires { ⌜ rows ≤ length (now table) / 10 ⌝ }
+    ensures { λ r. ⌜ r ≡ lastIn (now (table .entry)) kind rows ⌝ }
+{
+    let mut last = LastBody::Nothing;
+    let mut row: usize = 0;
+    while row < rows {
+        let first = row * 10;
+        if table[first] == kind {
+            last = LastBody::At(table[first + 3] as usize);
+        }
+        row = row + 1;
+    }
+    last
+}
+
+// The dataspace that wins: the one in the last body of its type, or the default.
+pub fn winning_data_space(file: &[u8], table: &[u64], rows: usize, state: State) -> DataSpace
+    requires { ⌜ Widths state × (rows ≤ length (now table) / 10) ⌝ }
+    ensures { λ r. ⌜ r ≡ winner (now (file .entry)) (dataSpace state) defaultDataSpace (lastIn (now (table .entry)) 1 rows) ⌝ }
+{
+    let LastBody::At(body) = last_body(table, rows, 1) else {
+        return DataSpace::default();
+    };
+    let answer = message_data_space(file, body, state);
+    let place = answer.answer;
+    let Place::At(_) = place else {
+        return DataSpace::default();
+    };
+    answer.data_space
+}
+
+pub fn winning_data_type(file: &[u8], table: &[u64], rows: usize) -> DataType
+    requires { ⌜ rows ≤ length (now table) / 10 ⌝ }
+    ensures { λ r. ⌜ r ≡ winner (now (file .entry)) (dataType 32) defaultDataType (lastIn (now (table .entry)) 3 rows) ⌝ }
+{
+    let LastBody::At(body) = last_body(table, rows, 3) else {
+        return DataType::default();
+    };
+    let DataTypeRead::Read(dt, _) = message_data_type(file, body, 32) else {
+        return DataType::default();
+    };
+    dt
+}
+
+pub fn winning_link_info(file: &[u8], table: &[u64], rows: usize, state: State) -> LinkInfo
+    requires { ⌜ Widths state × (rows ≤ length (now table) / 10) ⌝ }
+    ensures { λ r. ⌜ r ≡ winner (now (file .entry)) (linkInfo state) defaultLinkInfo (lastIn (now (table .entry)) 2 rows) ⌝ }
+{
+    let LastBody::At(body) = last_body(table, rows, 2) else {
+        return LinkInfo::default();
+    };
+    let LinkInfoRead::Read(li, _) = message_link_info(file, body, state) else {
+        return LinkInfo::default();
+    };
+    li
+}
+
+pub fn winning_group_info(file: &[u8], table: &[u64], rows: usize) -> GroupInfo
+    requires { ⌜ rows ≤ length (now table) / 10 ⌝ }
+    ensures { λ r. ⌜ r ≡ winner (now (file .entry)) groupInfo defaultGroupInfo (lastIn (now (table .entry)) 10 rows) ⌝ }
+{
+    let LastBody::At(body) = last_body(table, rows, 10) else {
+        return GroupInfo::default();
+    };
+    let GroupInfoRead::Read(gi, _) = message_group_info(file, body) else {
+        return GroupInfo::default();
+    };
+    gi
+}
+
+pub fn winning_attribute_info(
+    file: &[u8],
+    table: &[u64],
+    rows: usize,
+    state: State,
+) -> AttributeInfo
+    requires { ⌜ Widths state × (rows ≤ length (now table) / 10) ⌝ }
+    ensures { λ r. ⌜ r ≡ winner (now (file .entry)) (attributeInfo state) defaultAttributeInfo (lastIn (now (table .entry)) 21 rows) ⌝ }
+{
+    let LastBody::At(body) = last_body(table, rows, 21) else {
+        return AttributeInfo::default();
+    };
+    let AttributeInfoRead::Read(ai, _) = message_attribute_info(file, body, state) else {
+        return AttributeInfo::default();
+    };
+    ai
+}
+
+// The data of the last layout, as a part of the file; none where there is none.
+pub fn winning_data(file: &[u8], table: &[u64], rows: usize, state: State) -> Part
+    requires { ⌜ Widths state × (rows ≤ length (now table) / 10) ⌝ }
+    ensures { λ r. ⌜ r ≡ winner (now (file .entry)) (dataLayout state) emptyPart (lastIn (now (table .entry)) 8 rows) ⌝ }
+{
+    let LastBody::At(body) = last_body(table, rows, 8) else {
+        return Part {
+            position: 0,
+            length: 0,
+        };
+    };
+    let PartRead::Read(part, _) = message_data_layout(file, body, state) else {
+        return Part {
+            position: 0,
+            length: 0,
+        };
+    };
+    part
+}

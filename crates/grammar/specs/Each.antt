@@ -1,0 +1,36 @@
+-- What holds of each message that stands as an entry holds of each message of a reading. Assumes nothing.
+use Prim.Native.Nat.{ℕ, suc, _+_, _-_, _≤_, _<_}
+use mathlib.Core.Path.{_≡_, sym, subst}
+use mathlib.Core.List.{List, [], _∷_, _++_}
+use Rattle.grammar.specs.Message.{Message, Held, message, continuation}
+use Rattle.grammar.specs.Grammar.{Item, Run, ends, goes, Entry, is-message, is-continuation, Block, is-block, Reading}
+use Rattle.grammar.specs.Table.{messagesOf}
+use Rattle.grammar.specs.TableLaws.{messagesOf-append}
+
+-- P holds of each message
+abbrev pub All : (Message → Type 0) → List Message → Type 0
+All P [] = Unit {0}
+All P (m ∷ ms) = P m × All P ms
+
+all-append : (P : Message → Type 0) (ms ns : List Message) → All P ms → All P ns → All P (ms ++ ns)
+all-append P [] ns a b = b
+all-append P (m ∷ ms) ns a b = (a .0, all-append P ms ns (a .1) b)
+
+module _ (file : List ℕ) (prefix : ℕ) (One : ℕ → ℕ → Held → Type 0) (P : Message → Type 0) (each : (p q : ℕ) (m : Message) → One p q (message m) → P m) where
+  abbrev Each : List Item → Type 0
+  Each xs = All P (messagesOf xs)
+
+  both : (xs ys : List Item) → Each xs → Each ys → Each (xs ++ ys)
+  both xs ys a b = subst (All P) (sym (messagesOf-append xs ys)) (all-append P (messagesOf xs) (messagesOf ys) a b)
+
+  run-each : {level p e q : ℕ} {xs : List Item} → Run file prefix One level p e q xs → Each xs
+  run-each r = elim r as (λ level p e q xs y. Each xs) (λ level p q xs y. Each xs) (λ level o l xs y. Each xs) [
+    | ends h ↦ tt
+    | goes {xs = xs} {ys = ys} h (a → i) (r → j) ↦ both xs ys i j
+    | is-message {p = p} {q = q} {m = m} h ↦ (each p q m h, tt)
+    | is-continuation h n (b → i) ↦ i
+    | is-block h (r → j) t ↦ j
+  ]
+
+  pub reading-each : {p e next : ℕ} {xs : List Item} → Reading file prefix One p e next xs → Each xs
+  reading-each r = run-each (r .run)

@@ -1,0 +1,63 @@
+use Prim.Native.Nat.{_*_}
+use mathlib.Core.Logic.{⊎-elim}
+use borrow.Author.Tests.{lt-ltb, le-ltb}
+use Rattle.ohdr_dataspace.specs.DataSpaces.{elements}
+use Rattle.ohdr_datatype.specs.Facts.{class-is, class-not}
+use Rattle.ohdr_attribute.specs.Attributes.{value}
+use borrow.Author.Needs.{needs}
+use Rattle.ohdr_attribute.proofs.attribute_value.Statement.{statement}
+use Rattle.ohdr_attribute.proofs.attribute_value.Tie as tie
+
+elements-requires : tie.Need-elements-requires
+elements-requires c κs = search needs
+
+cast-times : tie.Need-cast-times
+cast-times c = search needs
+
+times-requires : tie.Need-times-requires
+times-requires c κs = search needs
+
+list-value-requires : tie.Need-list-value-requires
+list-value-requires c κs = search needs
+
+returns : tie.Need-returns
+unfolding value
+returns c = rw (class-is (c .before .before .before .before .before .before .args .datatype .«class_and_version») (c .before .if1 .taken)) (c .list-value .ensures)
+
+text-value-requires : tie.Need-text-value-requires
+text-value-requires c κs = search needs
+
+returns-2 : tie.Need-returns-2
+unfolding value
+returns-2 c =
+    let t = c .before .before .before .before .before .before .before .before .args .datatype in
+    let m = elements (c .before .before .before .before .before .before .before .before .args .space) in
+    rw (class-is (t .«class_and_version») (c .before .before .if2 .taken), lt-ltb 0 (t .size) (c .before .if3 .taken)) (c .text-value .ensures (m * t .size) (c .before .before .before .before .times .ensures m (c .before .before .before .before .before .elements .ensures)))
+
+other-value-requires : tie.Need-other-value-requires
+other-value-requires c κs = search needs
+
+returns-3 : tie.Need-returns-3
+unfolding value
+returns-3 c =
+    let t = c .before .before .before .before .before .before .before .args .datatype in
+    let m = elements (c .before .before .before .before .before .before .before .args .space) in
+    let other = c .other-value .ensures (m * t .size) (c .before .before .before .times .ensures m (c .before .before .before .before .elements .ensures)) in
+    ⊎-elim
+    (λ w. rw (class-is (t .«class_and_version») {k = 3} (w .0 .taken), le-ltb 0 (t .size) (w .1 .left)) other)
+    (λ w. rw (class-not (t .«class_and_version») 3 (w .left), class-not (t .«class_and_version») 9 (c .before .before .if1 .left)) other)
+    (c .before .if2 .came)
+
+pub attribute-value-spec : {M : Type 1} → statement M
+attribute-value-spec =
+    tie.close
+    (tie.spec
+    elements-requires
+    cast-times
+    times-requires
+    list-value-requires
+    returns
+    text-value-requires
+    returns-2
+    other-value-requires
+    returns-3)

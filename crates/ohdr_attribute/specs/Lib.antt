@@ -1,0 +1,4 @@
+pub mod Attributes
+pub mod Answers
+pub mod Facts
+pub mod Without

@@ -1,0 +1,589 @@
+use Rattle.ohdr_entry.specs.Loop.{Along, ends, stops, goes, falls as shrinks}
+use Rattle.ohdr_entry.specs.Entering.{prefix-small, many, unread, kept, full, ranged, deep, unopened, opened, unsigned, starts-inside, stopped, whole, skipped, cut}
+use Rattle.ohdr_entry.specs.Code.{walkedOf, runOf}
+use Rattle.records.specs.Refusals.{refusalNumber}
+use borrow.Author.Needs.{needs}
+use native.Mathlib.Omega.{arith}
+use mathlib.Core.Path.{refl}
+use Prim.Native.Nat.{ℕ, _+_, _-_, _*_, _<_}
+use borrow.Fn.Kinds.{In}
+use borrow.Fn.PlainCycle.{Measures, is, falls, and}
+use Rattle.ohdr_entry.proofs.message_continue.Reads as message-continue
+use Rattle.ohdr_entry.proofs.message_continue.Kinds as message-continue-kinds
+use Rattle.ohdr_entry.proofs.+message_continue+message_entry.Lts-message_continue as message-continue-lts
+use Rattle.ohdr_entry.proofs.message_entry.Reads as message-entry
+use Rattle.ohdr_entry.proofs.message_entry.Kinds as message-entry-kinds
+use Rattle.ohdr_entry.proofs.+message_continue+message_entry.Lts-message_entry as message-entry-lts
+use Rattle.ohdr_entry.proofs.block_signature.Reads as block-signature-reads
+use Rattle.ohdr_entry.proofs.message_prefix_size.Reads as message-prefix-size-reads
+use Rattle.ohdr_entry.proofs.put_row.Reads as put-row-reads
+use Rattle.ohdr_message.proofs.entry_alone.Reads as entry-alone-reads
+use Rattle.ohdr_entry.proofs.+message_continue+message_entry.{statement}
+use Rattle.ohdr_entry.proofs.+message_continue+message_entry.Tie.{close}
+
+abbrev μ-message-continue : Measures 2 message-continue-kinds.ps ℕ
+μ-message-continue κs a = a .1 .1 .1 .1 .1 .0 * 2 + 1
+
+abbrev μ-message-entry : Measures 2 message-entry-kinds.ps ℕ
+μ-message-entry κs a = a .1 .1 .1 .1 .0 * 2
+
+abbrev message-continue-at : ℕ → In 2 message-continue-kinds.ps
+message-continue-at t =
+    and
+    2
+    message-continue-kinds.ps
+    (is 2 message-continue-kinds.ps μ-message-continue t)
+    message-continue.Pre
+
+abbrev message-continue-below : ℕ → In 2 message-continue-kinds.ps
+message-continue-below t =
+    and
+    2
+    message-continue-kinds.ps
+    (falls 2 message-continue-kinds.ps _<_ μ-message-continue t)
+    message-continue.Pre
+
+abbrev message-entry-at : ℕ → In 2 message-entry-kinds.ps
+message-entry-at t =
+    and 2 message-entry-kinds.ps (is 2 message-entry-kinds.ps μ-message-entry t) message-entry.Pre
+
+abbrev message-entry-below : ℕ → In 2 message-entry-kinds.ps
+message-entry-below t =
+    and
+    2
+    message-entry-kinds.ps
+    (falls 2 message-entry-kinds.ps _<_ μ-message-entry t)
+    message-entry.Pre
+
+abbrev message-continue-Inv-loop : message-continue-lts.InvT-loop
+message-continue-Inv-loop file table₀ header levels start whole end prefix progress₀ table progress =
+    Along file header levels end (runOf file header levels end start (walkedOf progress₀ table₀)) table₀ progress table
+
+abbrev message-continue-μ-loop : message-continue-lts.MeasureT-loop
+message-continue-μ-loop file table₀ header levels start whole end prefix progress₀ table progress =
+    4097 - progress .entries
+
+message-continue-block-signature-requires :
+    (t : ℕ) → message-continue-lts.Need-block-signature-requires (
+      block-signature-reads.Asked,
+      block-signature-reads.Learnt,
+      message-prefix-size-reads.Asked,
+      message-prefix-size-reads.Learnt,
+      message-entry-below t,
+      message-entry.Post,
+    )
+    (message-continue-at t)
+    message-continue.Post
+    message-continue-Inv-loop
+    message-continue-μ-loop
+message-continue-block-signature-requires t c κs = search needs
+
+message-continue-enum-known-p : (t : ℕ) → message-continue-lts.Need-enum-known-p (
+  block-signature-reads.Asked,
+  block-signature-reads.Learnt,
+  message-prefix-size-reads.Asked,
+  message-prefix-size-reads.Learnt,
+  message-entry-below t,
+  message-entry.Post,
+) (message-continue-at t) message-continue.Post message-continue-Inv-loop message-continue-μ-loop
+message-continue-enum-known-p t c = search needs
+
+message-continue-enum-known-r : (t : ℕ) → message-continue-lts.Need-enum-known-r (
+  block-signature-reads.Asked,
+  block-signature-reads.Learnt,
+  message-prefix-size-reads.Asked,
+  message-prefix-size-reads.Learnt,
+  message-entry-below t,
+  message-entry.Post,
+) (message-continue-at t) message-continue.Post message-continue-Inv-loop message-continue-μ-loop
+message-continue-enum-known-r t c = search needs
+
+message-continue-returns : (t : ℕ) → message-continue-lts.Need-returns (
+  block-signature-reads.Asked,
+  block-signature-reads.Learnt,
+  message-prefix-size-reads.Asked,
+  message-prefix-size-reads.Learnt,
+  message-entry-below t,
+  message-entry.Post,
+) (message-continue-at t) message-continue.Post message-continue-Inv-loop message-continue-μ-loop
+message-continue-returns t c = unsigned (c .before .before .before .before .before .before .args .file .now) (c .before .before .before .before .before .before .args .header) (c .before .before .before .before .before .before .args .levels) (walkedOf (c .before .before .before .before .before .before .args .from) (c .before .before .before .before .before .before .args .table .now)) (c .before .before .before .before .before .before .args .block .offset) (c .before .before .before .before .before .before .args .block .length) (c .before .before .before .block-signature .ensures) (c .before .r .given .1)
+
+message-continue-add-whole : (t : ℕ) → message-continue-lts.Need-add-whole (
+  block-signature-reads.Asked,
+  block-signature-reads.Learnt,
+  message-prefix-size-reads.Asked,
+  message-prefix-size-reads.Learnt,
+  message-entry-below t,
+  message-entry.Post,
+) (message-continue-at t) message-continue.Post message-continue-Inv-loop message-continue-μ-loop
+message-continue-add-whole t c = omega (arith, c .before .before .before .before .before .before .pre .1)
+
+message-continue-sub-end : (t : ℕ) → message-continue-lts.Need-sub-end (
+  block-signature-reads.Asked,
+  block-signature-reads.Learnt,
+  message-prefix-size-reads.Asked,
+  message-prefix-size-reads.Learnt,
+  message-entry-below t,
+  message-entry.Post,
+) (message-continue-at t) message-continue.Post message-continue-Inv-loop message-continue-μ-loop
+message-continue-sub-end t c = omega (arith, c .before .before .before .before .before .before .pre .1)
+
+message-continue-message-prefix-size-requires :
+    (t : ℕ) → message-continue-lts.Need-message-prefix-size-requires (
+      block-signature-reads.Asked,
+      block-signature-reads.Learnt,
+      message-prefix-size-reads.Asked,
+      message-prefix-size-reads.Learnt,
+      message-entry-below t,
+      message-entry.Post,
+    )
+    (message-continue-at t)
+    message-continue.Post
+    message-continue-Inv-loop
+    message-continue-μ-loop
+message-continue-message-prefix-size-requires t c κs = search needs
+
+message-continue-loop-holds : (t : ℕ) → message-continue-lts.Need-loop-holds (
+  block-signature-reads.Asked,
+  block-signature-reads.Learnt,
+  message-prefix-size-reads.Asked,
+  message-prefix-size-reads.Learnt,
+  message-entry-below t,
+  message-entry.Post,
+) (message-continue-at t) message-continue.Post message-continue-Inv-loop message-continue-μ-loop
+message-continue-loop-holds t c = record { same = refl; few = c .before .before .before .before .before .before .before .pre .1 .2; inside = starts-inside (c .before .before .before .before .before .before .before .args .file .now) (c .before .before .before .before .before .before .before .args .header) (c .before .before .before .before .before .before .before .args .levels) (walkedOf (c .before .before .before .before .before .before .before .args .from) (c .before .before .before .before .before .before .before .args .table .now)) (c .before .before .before .before .before .before .before .args .block .offset) (c .before .before .before .before .before .before .before .args .block .length) (c .before .before .before .before .block-signature .ensures) (c .before .before .p .given .1); long = refl }
+
+message-continue-add-if1 : (t : ℕ) → message-continue-lts.Need-add-if1 (
+  block-signature-reads.Asked,
+  block-signature-reads.Learnt,
+  message-prefix-size-reads.Asked,
+  message-prefix-size-reads.Learnt,
+  message-entry-below t,
+  message-entry.Post,
+) (message-continue-at t) message-continue.Post message-continue-Inv-loop message-continue-μ-loop
+message-continue-add-if1 t c = omega (arith, prefix-small (c .before .before .before .before .before .before .before .before .before .args .header .flags), c .before .before .message-prefix-size .ensures, c .before .loop .inv .inside)
+
+message-continue-message-entry-requires :
+    (t : ℕ) → message-continue-lts.Need-message-entry-requires (
+      block-signature-reads.Asked,
+      block-signature-reads.Learnt,
+      message-prefix-size-reads.Asked,
+      message-prefix-size-reads.Learnt,
+      message-entry-below t,
+      message-entry.Post,
+    )
+    (message-continue-at t)
+    message-continue.Post
+    message-continue-Inv-loop
+    message-continue-μ-loop
+message-continue-message-entry-requires t c κs = (omega (arith, c .before .before .before .before .before .before .before .before .before .before .before .pre .0), (c .before .before .before .before .before .before .before .before .before .before .before .pre .1 .0, c .before .before .before .before .before .before .before .before .before .before .before .pre .1 .1))
+
+message-continue-enum-known-r-2 : (t : ℕ) → message-continue-lts.Need-enum-known-r-2 (
+  block-signature-reads.Asked,
+  block-signature-reads.Learnt,
+  message-prefix-size-reads.Asked,
+  message-prefix-size-reads.Learnt,
+  message-entry-below t,
+  message-entry.Post,
+) (message-continue-at t) message-continue.Post message-continue-Inv-loop message-continue-μ-loop
+message-continue-enum-known-r-2 t c = search needs
+
+message-continue-same-length : (t : ℕ) → message-continue-lts.Need-same-length (
+  block-signature-reads.Asked,
+  block-signature-reads.Learnt,
+  message-prefix-size-reads.Asked,
+  message-prefix-size-reads.Learnt,
+  message-entry-below t,
+  message-entry.Post,
+) (message-continue-at t) message-continue.Post message-continue-Inv-loop message-continue-μ-loop
+message-continue-same-length t c = search needs
+
+message-continue-returns-2 : (t : ℕ) → message-continue-lts.Need-returns-2 (
+  block-signature-reads.Asked,
+  block-signature-reads.Learnt,
+  message-prefix-size-reads.Asked,
+  message-prefix-size-reads.Learnt,
+  message-entry-below t,
+  message-entry.Post,
+) (message-continue-at t) message-continue.Post message-continue-Inv-loop message-continue-μ-loop
+message-continue-returns-2 t c = stopped (c .before .before .before .before .before .before .before .before .before .before .before .before .before .before .before .before .before .args .file .now) (c .before .before .before .before .before .before .before .before .before .before .before .before .before .before .before .before .before .args .header) (c .before .before .before .before .before .before .before .before .before .before .before .before .before .before .before .before .before .args .levels) (walkedOf (c .before .before .before .before .before .before .before .before .before .before .before .before .before .before .before .before .before .args .from) (c .before .before .before .before .before .before .before .before .before .before .before .before .before .before .before .before .before .args .table .now)) (c .before .before .before .before .before .before .before .before .before .before .before .before .before .before .before .before .before .args .block .offset) (c .before .before .before .before .before .before .before .before .before .before .before .before .before .before .before .before .before .args .block .length) (c .before .before .before .before .before .before .before .before .before .before .before .before .before .before .block-signature .ensures) (c .before .before .before .before .before .before .before .before .before .before .before .before .p .given .1) (refusalNumber (c .before .r2 .given .0 .0)) (stops (c .before .before .before .before .before .before .before .before .before .loop .inv) (rw (c .before .before .before .before .before .before .before .before .before .before .message-prefix-size .ensures) at (c .before .before .before .before .before .before .before .if1 .taken)) (c .before .before .before .before .before .message-entry .last .1 .0) (c .before .before .before .before .before .message-entry .ensures) (c .before .r2 .given .1))
+
+message-continue-enum-known-p-2 : (t : ℕ) → message-continue-lts.Need-enum-known-p-2 (
+  block-signature-reads.Asked,
+  block-signature-reads.Learnt,
+  message-prefix-size-reads.Asked,
+  message-prefix-size-reads.Learnt,
+  message-entry-below t,
+  message-entry.Post,
+) (message-continue-at t) message-continue.Post message-continue-Inv-loop message-continue-μ-loop
+message-continue-enum-known-p-2 t c = search needs
+
+message-continue-loop-less : (t : ℕ) → message-continue-lts.Need-loop-less (
+  block-signature-reads.Asked,
+  block-signature-reads.Learnt,
+  message-prefix-size-reads.Asked,
+  message-prefix-size-reads.Learnt,
+  message-entry-below t,
+  message-entry.Post,
+) (message-continue-at t) message-continue.Post message-continue-Inv-loop message-continue-μ-loop
+message-continue-loop-less t c = shrinks (c .before .before .before .before .before .before .before .before .before .loop .inv) (rw (c .before .before .before .before .before .before .before .before .before .before .message-prefix-size .ensures) at (c .before .before .before .before .before .before .before .if1 .taken)) (c .before .before .before .before .before .message-entry .last .1 .0) (c .before .before .before .before .before .before .before .before .before .before .before .before .before .before .before .before .before .pre .1 .1) (c .before .before .before .before .before .message-entry .ensures) (c .before .p2 .given .1)
+
+message-continue-loop-again : (t : ℕ) → message-continue-lts.Need-loop-again (
+  block-signature-reads.Asked,
+  block-signature-reads.Learnt,
+  message-prefix-size-reads.Asked,
+  message-prefix-size-reads.Learnt,
+  message-entry-below t,
+  message-entry.Post,
+) (message-continue-at t) message-continue.Post message-continue-Inv-loop message-continue-μ-loop
+message-continue-loop-again t c = goes (c .before .before .before .before .before .before .before .before .before .loop .inv) (rw (c .before .before .before .before .before .before .before .before .before .before .message-prefix-size .ensures) at (c .before .before .before .before .before .before .before .if1 .taken)) (c .before .before .before .before .before .message-entry .last .1 .0) (c .before .before .before .before .before .before .before .before .before .before .before .before .before .before .before .before .before .pre .1 .1) (c .before .before .before .before .before .message-entry .ensures) (c .before .p2 .given .1) (c .before .before .before .before .before .message-entry .kept .1 .0)
+
+message-continue-same-length-2 : (t : ℕ) → message-continue-lts.Need-same-length-2 (
+  block-signature-reads.Asked,
+  block-signature-reads.Learnt,
+  message-prefix-size-reads.Asked,
+  message-prefix-size-reads.Learnt,
+  message-entry-below t,
+  message-entry.Post,
+) (message-continue-at t) message-continue.Post message-continue-Inv-loop message-continue-μ-loop
+message-continue-same-length-2 t c = search needs
+
+message-continue-returns-3 : (t : ℕ) → message-continue-lts.Need-returns-3 (
+  block-signature-reads.Asked,
+  block-signature-reads.Learnt,
+  message-prefix-size-reads.Asked,
+  message-prefix-size-reads.Learnt,
+  message-entry-below t,
+  message-entry.Post,
+) (message-continue-at t) message-continue.Post message-continue-Inv-loop message-continue-μ-loop
+message-continue-returns-3 t c = whole (c .before .before .before .before .before .before .before .before .before .before .before .before .args .file .now) (c .before .before .before .before .before .before .before .before .before .before .before .before .args .header) (c .before .before .before .before .before .before .before .before .before .before .before .before .args .levels) (walkedOf (c .before .before .before .before .before .before .before .before .before .before .before .before .args .from) (c .before .before .before .before .before .before .before .before .before .before .before .before .args .table .now)) (c .before .before .before .before .before .before .before .before .before .before .before .before .args .block .offset) (c .before .before .before .before .before .before .before .before .before .before .before .before .args .block .length) (c .before .before .before .before .before .before .before .before .before .block-signature .ensures) (c .before .before .before .before .before .before .before .p .given .1) (c .before .before .before .before .loop .progress .at) (walkedOf (c .before .before .before .before .loop .progress) (c .before .before .before .before .loop .table)) (ends (c .before .before .before .before .loop .inv) (rw (c .before .before .before .before .before .message-prefix-size .ensures) at (c .before .before .if1 .left))) (c .if2 .taken)
+
+message-continue-same-length-3 : (t : ℕ) → message-continue-lts.Need-same-length-3 (
+  block-signature-reads.Asked,
+  block-signature-reads.Learnt,
+  message-prefix-size-reads.Asked,
+  message-prefix-size-reads.Learnt,
+  message-entry-below t,
+  message-entry.Post,
+) (message-continue-at t) message-continue.Post message-continue-Inv-loop message-continue-μ-loop
+message-continue-same-length-3 t c = search needs
+
+message-continue-returns-4 : (t : ℕ) → message-continue-lts.Need-returns-4 (
+  block-signature-reads.Asked,
+  block-signature-reads.Learnt,
+  message-prefix-size-reads.Asked,
+  message-prefix-size-reads.Learnt,
+  message-entry-below t,
+  message-entry.Post,
+) (message-continue-at t) message-continue.Post message-continue-Inv-loop message-continue-μ-loop
+message-continue-returns-4 t c = cut (c .before .before .before .before .before .before .before .before .before .before .before .before .before .args .file .now) (c .before .before .before .before .before .before .before .before .before .before .before .before .before .args .header) (c .before .before .before .before .before .before .before .before .before .before .before .before .before .args .levels) (walkedOf (c .before .before .before .before .before .before .before .before .before .before .before .before .before .args .from) (c .before .before .before .before .before .before .before .before .before .before .before .before .before .args .table .now)) (c .before .before .before .before .before .before .before .before .before .before .before .before .before .args .block .offset) (c .before .before .before .before .before .before .before .before .before .before .before .before .before .args .block .length) (c .before .before .before .before .before .before .before .before .before .before .block-signature .ensures) (c .before .before .before .before .before .before .before .before .p .given .1) (c .before .before .before .before .before .loop .progress .at) (walkedOf (c .before .before .before .before .before .loop .progress) (c .before .before .before .before .before .loop .table)) (ends (c .before .before .before .before .before .loop .inv) (rw (c .before .before .before .before .before .before .message-prefix-size .ensures) at (c .before .before .before .if1 .left))) (c .before .if2 .left) (c .if3 .taken)
+
+message-continue-same-length-4 : (t : ℕ) → message-continue-lts.Need-same-length-4 (
+  block-signature-reads.Asked,
+  block-signature-reads.Learnt,
+  message-prefix-size-reads.Asked,
+  message-prefix-size-reads.Learnt,
+  message-entry-below t,
+  message-entry.Post,
+) (message-continue-at t) message-continue.Post message-continue-Inv-loop message-continue-μ-loop
+message-continue-same-length-4 t c = search needs
+
+message-continue-returns-5 : (t : ℕ) → message-continue-lts.Need-returns-5 (
+  block-signature-reads.Asked,
+  block-signature-reads.Learnt,
+  message-prefix-size-reads.Asked,
+  message-prefix-size-reads.Learnt,
+  message-entry-below t,
+  message-entry.Post,
+) (message-continue-at t) message-continue.Post message-continue-Inv-loop message-continue-μ-loop
+message-continue-returns-5 t c = skipped (c .before .before .before .before .before .before .before .before .before .before .before .before .before .args .file .now) (c .before .before .before .before .before .before .before .before .before .before .before .before .before .args .header) (c .before .before .before .before .before .before .before .before .before .before .before .before .before .args .levels) (walkedOf (c .before .before .before .before .before .before .before .before .before .before .before .before .before .args .from) (c .before .before .before .before .before .before .before .before .before .before .before .before .before .args .table .now)) (c .before .before .before .before .before .before .before .before .before .before .before .before .before .args .block .offset) (c .before .before .before .before .before .before .before .before .before .before .before .before .before .args .block .length) (c .before .before .before .before .before .before .before .before .before .before .block-signature .ensures) (c .before .before .before .before .before .before .before .before .p .given .1) (c .before .before .before .before .before .loop .progress .at) (walkedOf (c .before .before .before .before .before .loop .progress) (c .before .before .before .before .before .loop .table)) (ends (c .before .before .before .before .before .loop .inv) (rw (c .before .before .before .before .before .before .message-prefix-size .ensures) at (c .before .before .before .if1 .left))) (c .before .if2 .left) (c .if3 .left)
+
+message-entry-returns : (t : ℕ) → message-entry-lts.Need-returns (
+  entry-alone-reads.Asked,
+  entry-alone-reads.Learnt,
+  put-row-reads.Asked,
+  put-row-reads.Learnt,
+  message-continue-below t,
+  message-continue.Post,
+) (message-entry-at t) message-entry.Post
+message-entry-returns t c = many (c .before .before .before .args .file .now) (c .before .before .before .args .header) (c .before .before .before .args .levels) (c .before .before .before .args .from) (c .before .before .before .args .table .now) (c .if1 .taken)
+
+message-entry-entry-alone-requires : (t : ℕ) → message-entry-lts.Need-entry-alone-requires (
+  entry-alone-reads.Asked,
+  entry-alone-reads.Learnt,
+  put-row-reads.Asked,
+  put-row-reads.Learnt,
+  message-continue-below t,
+  message-continue.Post,
+) (message-entry-at t) message-entry.Post
+message-entry-entry-alone-requires t c κs = c .before .before .before .before .pre .1 .0
+
+message-entry-enum-known-r : (t : ℕ) → message-entry-lts.Need-enum-known-r (
+  entry-alone-reads.Asked,
+  entry-alone-reads.Learnt,
+  put-row-reads.Asked,
+  put-row-reads.Learnt,
+  message-continue-below t,
+  message-continue.Post,
+) (message-entry-at t) message-entry.Post
+message-entry-enum-known-r t c = search needs
+
+message-entry-enum-known-figures : (t : ℕ) → message-entry-lts.Need-enum-known-figures (
+  entry-alone-reads.Asked,
+  entry-alone-reads.Learnt,
+  put-row-reads.Asked,
+  put-row-reads.Learnt,
+  message-continue-below t,
+  message-continue.Post,
+) (message-entry-at t) message-entry.Post
+message-entry-enum-known-figures t c = search needs
+
+message-entry-put-row-requires : (t : ℕ) → message-entry-lts.Need-put-row-requires (
+  entry-alone-reads.Asked,
+  entry-alone-reads.Learnt,
+  put-row-reads.Asked,
+  put-row-reads.Learnt,
+  message-continue-below t,
+  message-continue.Post,
+) (message-entry-at t) message-entry.Post
+message-entry-put-row-requires t c κs = search needs
+
+message-entry-add-t29 : (t : ℕ) → message-entry-lts.Need-add-t29 (
+  entry-alone-reads.Asked,
+  entry-alone-reads.Learnt,
+  put-row-reads.Asked,
+  put-row-reads.Learnt,
+  message-continue-below t,
+  message-continue.Post,
+) (message-entry-at t) message-entry.Post
+message-entry-add-t29 t c = search needs
+
+message-entry-add-t30 : (t : ℕ) → message-entry-lts.Need-add-t30 (
+  entry-alone-reads.Asked,
+  entry-alone-reads.Learnt,
+  put-row-reads.Asked,
+  put-row-reads.Learnt,
+  message-continue-below t,
+  message-continue.Post,
+) (message-entry-at t) message-entry.Post
+message-entry-add-t30 t c = search needs
+
+message-entry-enum-known-continuation : (t : ℕ) → message-entry-lts.Need-enum-known-continuation (
+  entry-alone-reads.Asked,
+  entry-alone-reads.Learnt,
+  put-row-reads.Asked,
+  put-row-reads.Learnt,
+  message-continue-below t,
+  message-continue.Post,
+) (message-entry-at t) message-entry.Post
+message-entry-enum-known-continuation t c = search needs
+
+message-entry-returns-2 : (t : ℕ) → message-entry-lts.Need-returns-2 (
+  entry-alone-reads.Asked,
+  entry-alone-reads.Learnt,
+  put-row-reads.Asked,
+  put-row-reads.Learnt,
+  message-continue-below t,
+  message-continue.Post,
+) (message-entry-at t) message-entry.Post
+message-entry-returns-2 t c = deep (c .before .before .before .before .before .before .before .before .before .args .file .now) (c .before .before .before .before .before .before .before .before .before .args .header) (c .before .before .before .before .before .before .before .before .before .args .levels) (c .before .before .before .before .before .before .before .before .before .args .from) (c .before .before .before .before .before .before .before .before .before .args .table .now) (c .before .before .before .before .before .before .if1 .left) (c .before .before .before .before .entry-alone .ensures) (c .before .before .continuation .given .1) (c .if3 .taken)
+
+message-entry-add-message-continue : (t : ℕ) → message-entry-lts.Need-add-message-continue (
+  entry-alone-reads.Asked,
+  entry-alone-reads.Learnt,
+  put-row-reads.Asked,
+  put-row-reads.Learnt,
+  message-continue-below t,
+  message-continue.Post,
+) (message-entry-at t) message-entry.Post
+message-entry-add-message-continue t c = search needs
+
+message-entry-sub-message-continue : (t : ℕ) → message-entry-lts.Need-sub-message-continue (
+  entry-alone-reads.Asked,
+  entry-alone-reads.Learnt,
+  put-row-reads.Asked,
+  put-row-reads.Learnt,
+  message-continue-below t,
+  message-continue.Post,
+) (message-entry-at t) message-entry.Post
+message-entry-sub-message-continue t c = search needs
+
+message-entry-message-continue-requires :
+    (t : ℕ) → message-entry-lts.Need-message-continue-requires (
+      entry-alone-reads.Asked,
+      entry-alone-reads.Learnt,
+      put-row-reads.Asked,
+      put-row-reads.Learnt,
+      message-continue-below t,
+      message-continue.Post,
+    ) (message-entry-at t) message-entry.Post
+message-entry-message-continue-requires t c κs = let k = ranged (c .before .before .before .before .before .before .before .before .before .before .args .file .now) (c .before .before .before .before .before .before .before .before .before .before .args .header) (c .before .before .before .before .before .before .before .before .before .before .args .levels) (c .before .before .before .before .before .before .before .before .before .before .args .from) (c .before .before .before .before .before .before .before .before .before .before .args .table .now) (c .before .before .before .before .before .before .before .if1 .left) (c .before .before .before .before .before .entry-alone .ensures) (c .before .before .before .continuation .given .1) in (omega (arith, c .before .before .before .before .before .before .before .before .before .before .pre .0, c .before .if3 .left), (c .before .before .before .before .before .before .before .before .before .before .pre .1 .0, omega (arith, c .before .before .before .before .before .before .before .before .before .before .pre .1), omega arith, k .least, omega (arith, k .within)))
+
+message-entry-enum-known-r-2 : (t : ℕ) → message-entry-lts.Need-enum-known-r-2 (
+  entry-alone-reads.Asked,
+  entry-alone-reads.Learnt,
+  put-row-reads.Asked,
+  put-row-reads.Learnt,
+  message-continue-below t,
+  message-continue.Post,
+) (message-entry-at t) message-entry.Post
+message-entry-enum-known-r-2 t c = search needs
+
+message-entry-enum-known-p : (t : ℕ) → message-entry-lts.Need-enum-known-p (
+  entry-alone-reads.Asked,
+  entry-alone-reads.Learnt,
+  put-row-reads.Asked,
+  put-row-reads.Learnt,
+  message-continue-below t,
+  message-continue.Post,
+) (message-entry-at t) message-entry.Post
+message-entry-enum-known-p t c = search needs
+
+message-entry-returns-3 : (t : ℕ) → message-entry-lts.Need-returns-3 (
+  entry-alone-reads.Asked,
+  entry-alone-reads.Learnt,
+  put-row-reads.Asked,
+  put-row-reads.Learnt,
+  message-continue-below t,
+  message-continue.Post,
+) (message-entry-at t) message-entry.Post
+message-entry-returns-3 t c = unread (c .before .before .before .before .before .before .before .before .args .file .now) (c .before .before .before .before .before .before .before .before .args .header) (c .before .before .before .before .before .before .before .before .args .levels) (c .before .before .before .before .before .before .before .before .args .from) (c .before .before .before .before .before .before .before .before .args .table .now) (c .before .before .before .before .before .if1 .left) (c .before .before .before .entry-alone .ensures) (c .before .r .given .1)
+
+message-entry-same-length : (t : ℕ) → message-entry-lts.Need-same-length (
+  entry-alone-reads.Asked,
+  entry-alone-reads.Learnt,
+  put-row-reads.Asked,
+  put-row-reads.Learnt,
+  message-continue-below t,
+  message-continue.Post,
+) (message-entry-at t) message-entry.Post
+message-entry-same-length t c = search needs
+
+message-entry-returns-4 : (t : ℕ) → message-entry-lts.Need-returns-4 (
+  entry-alone-reads.Asked,
+  entry-alone-reads.Learnt,
+  put-row-reads.Asked,
+  put-row-reads.Learnt,
+  message-continue-below t,
+  message-continue.Post,
+) (message-entry-at t) message-entry.Post
+message-entry-returns-4 t c = kept (c .before .before .before .before .before .before .before .before .before .before .before .before .before .args .file .now) (c .before .before .before .before .before .before .before .before .before .before .before .before .before .args .header) (c .before .before .before .before .before .before .before .before .before .before .before .before .before .args .levels) (c .before .before .before .before .before .before .before .before .before .before .before .before .before .args .from) (c .before .before .before .before .before .before .before .before .before .before .before .before .before .args .table .now) (c .before .before .before .before .before .before .before .before .before .before .if1 .left) (c .before .before .before .before .before .before .before .before .entry-alone .ensures) (c .before .before .before .before .before .before .figures .given .1) (c .before .before .before .before .if2 .taken) _ (c .before .before .put-row .ensures)
+
+message-entry-returns-5 : (t : ℕ) → message-entry-lts.Need-returns-5 (
+  entry-alone-reads.Asked,
+  entry-alone-reads.Learnt,
+  put-row-reads.Asked,
+  put-row-reads.Learnt,
+  message-continue-below t,
+  message-continue.Post,
+) (message-entry-at t) message-entry.Post
+message-entry-returns-5 t c = full (c .before .before .before .before .before .before .before .before .before .args .file .now) (c .before .before .before .before .before .before .before .before .before .args .header) (c .before .before .before .before .before .before .before .before .before .args .levels) (c .before .before .before .before .before .before .before .before .before .args .from) (c .before .before .before .before .before .before .before .before .before .args .table .now) (c .before .before .before .before .before .before .if1 .left) (c .before .before .before .before .entry-alone .ensures) (c .before .before .figures .given .1) (c .if2 .left)
+
+message-entry-same-length-2 : (t : ℕ) → message-entry-lts.Need-same-length-2 (
+  entry-alone-reads.Asked,
+  entry-alone-reads.Learnt,
+  put-row-reads.Asked,
+  put-row-reads.Learnt,
+  message-continue-below t,
+  message-continue.Post,
+) (message-entry-at t) message-entry.Post
+message-entry-same-length-2 t c = search needs
+
+message-entry-returns-6 : (t : ℕ) → message-entry-lts.Need-returns-6 (
+  entry-alone-reads.Asked,
+  entry-alone-reads.Learnt,
+  put-row-reads.Asked,
+  put-row-reads.Learnt,
+  message-continue-below t,
+  message-continue.Post,
+) (message-entry-at t) message-entry.Post
+message-entry-returns-6 t c = unopened (c .before .before .before .before .before .before .before .before .before .before .before .before .before .before .before .before .args .file .now) (c .before .before .before .before .before .before .before .before .before .before .before .before .before .before .before .before .args .header) (c .before .before .before .before .before .before .before .before .before .before .before .before .before .before .before .before .args .levels) (c .before .before .before .before .before .before .before .before .before .before .before .before .before .before .before .before .args .from) (c .before .before .before .before .before .before .before .before .before .before .before .before .before .before .before .before .args .table .now) (c .before .before .before .before .before .before .before .before .before .before .before .before .before .if1 .left) (c .before .before .before .before .before .before .before .before .before .before .before .entry-alone .ensures) (c .before .before .before .before .before .before .before .before .before .continuation .given .1) (c .before .before .before .before .before .before .before .if3 .left) (c .before .before .before .before .before .message-continue .last .1 .0) (c .before .before .before .before .before .message-continue .ensures) (c .before .r2 .given .1)
+
+message-entry-same-length-3 : (t : ℕ) → message-entry-lts.Need-same-length-3 (
+  entry-alone-reads.Asked,
+  entry-alone-reads.Learnt,
+  put-row-reads.Asked,
+  put-row-reads.Learnt,
+  message-continue-below t,
+  message-continue.Post,
+) (message-entry-at t) message-entry.Post
+message-entry-same-length-3 t c = search needs
+
+message-entry-returns-7 : (t : ℕ) → message-entry-lts.Need-returns-7 (
+  entry-alone-reads.Asked,
+  entry-alone-reads.Learnt,
+  put-row-reads.Asked,
+  put-row-reads.Learnt,
+  message-continue-below t,
+  message-continue.Post,
+) (message-entry-at t) message-entry.Post
+message-entry-returns-7 t c = opened (c .before .before .before .before .before .before .before .before .before .before .before .before .before .before .before .before .args .file .now) (c .before .before .before .before .before .before .before .before .before .before .before .before .before .before .before .before .args .header) (c .before .before .before .before .before .before .before .before .before .before .before .before .before .before .before .before .args .levels) (c .before .before .before .before .before .before .before .before .before .before .before .before .before .before .before .before .args .from) (c .before .before .before .before .before .before .before .before .before .before .before .before .before .before .before .before .args .table .now) (c .before .before .before .before .before .before .before .before .before .before .before .before .before .if1 .left) (c .before .before .before .before .before .before .before .before .before .before .before .entry-alone .ensures) (c .before .before .before .before .before .before .before .before .before .continuation .given .1) (c .before .before .before .before .before .before .before .if3 .left) (c .before .before .before .before .before .message-continue .last .1 .0) (c .before .before .before .before .before .message-continue .ensures) (c .before .p .given .1)
+
+pub +message-continue+message-entry-spec : {M : Type 1} → statement M
++message-continue+message-entry-spec =
+    close μ-message-continue μ-message-entry (λ t. message-continue-lts.spec (
+      block-signature-reads.Asked,
+      block-signature-reads.Learnt,
+      message-prefix-size-reads.Asked,
+      message-prefix-size-reads.Learnt,
+      message-entry-below t,
+      message-entry.Post,
+    )
+    (message-continue-at t)
+    message-continue.Post
+    message-continue-Inv-loop
+    message-continue-μ-loop
+    (message-continue-block-signature-requires t)
+    (message-continue-enum-known-p t)
+    (message-continue-enum-known-r t)
+    (message-continue-returns t)
+    (message-continue-add-whole t)
+    (message-continue-sub-end t)
+    (message-continue-message-prefix-size-requires t)
+    (message-continue-loop-holds t)
+    (message-continue-add-if1 t)
+    (message-continue-message-entry-requires t)
+    (message-continue-enum-known-r-2 t)
+    (message-continue-same-length t)
+    (message-continue-returns-2 t)
+    (message-continue-enum-known-p-2 t)
+    (message-continue-loop-less t)
+    (message-continue-loop-again t)
+    (message-continue-same-length-2 t)
+    (message-continue-returns-3 t)
+    (message-continue-same-length-3 t)
+    (message-continue-returns-4 t)
+    (message-continue-same-length-4 t)
+    (message-continue-returns-5 t))
+    λ t. message-entry-lts.spec (
+      entry-alone-reads.Asked,
+      entry-alone-reads.Learnt,
+      put-row-reads.Asked,
+      put-row-reads.Learnt,
+      message-continue-below t,
+      message-continue.Post,
+    )
+    (message-entry-at t)
+    message-entry.Post
+    (message-entry-returns t)
+    (message-entry-entry-alone-requires t)
+    (message-entry-enum-known-r t)
+    (message-entry-enum-known-figures t)
+    (message-entry-put-row-requires t)
+    (message-entry-add-t29 t)
+    (message-entry-add-t30 t)
+    (message-entry-enum-known-continuation t)
+    (message-entry-returns-2 t)
+    (message-entry-add-message-continue t)
+    (message-entry-sub-message-continue t)
+    (message-entry-message-continue-requires t)
+    (message-entry-enum-known-r-2 t)
+    (message-entry-enum-known-p t)
+    (message-entry-returns-3 t)
+    (message-entry-same-length t)
+    (message-entry-returns-4 t)
+    (message-entry-returns-5 t)
+    (message-entry-same-length-2 t)
+    (message-entry-returns-6 t)
+    (message-entry-same-length-3 t)
+    (message-entry-returns-7 t)

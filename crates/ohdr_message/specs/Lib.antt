@@ -1,0 +1,4 @@
+pub mod Entries
+pub mod Answers
+pub mod Facts
+pub mod Entered
