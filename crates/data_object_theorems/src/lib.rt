@@ -1,0 +1,1 @@
+// Specifications alone: what holds of every reading of a header, and the marked cases, computed.
