@@ -7,14 +7,8 @@ use native.Mathlib.Omega.{arith}
 use lib.Dec.{leb}
 use lib.ListN.{length}
 use borrow.Author.Tests.{le-leb, lt-leb}
-use Rattle.format.specs.Format.{Format, text, found, refused, read}
-use Rattle.format.specs.Laws.{sound}
-use Rattle.format.specs.Covers.{forward}
+use Rattle.format.specs.Format.{Format, text, refused, read}
 use Rattle.format.specs.Steps.{read-text, text-room}
-
--- what is read ends no earlier than it starts
-pub read-forward : {A : Type 0} (s : List ℕ) (F : Format A) (p q : ℕ) (a : A) → read s F p ≡ found a q → p ≤ q
-read-forward s F p q a e = forward s F p q a (sound s F p q a e)
 
 -- a text of 2 ^ 64 bytes or more leaves every file
 pub text-many : {A : Type 0} (s : List ℕ) (n : ℕ) (k : ℕ → Format A) (p : ℕ) → length s < 2 ^ 64 → 2 ^ 64 ≤ n → read s (text n k) p ≡ refused 3

@@ -1,6 +1,6 @@
 use Rattle.format.specs.Steps.{read-attempt, read-here, read-bind, read-skip, read-done}
 use Rattle.ohdr_datatype.specs.DataTypes.{dataType}
-use Rattle.ohdr_attribute.specs.Facts.{read-forward}
+use Rattle.format.specs.Standing.{read-forward}
 use Rattle.ohdr_attribute.specs.Attributes.{nameAndValue, typeSpaceValue}
 use borrow.Author.Needs.{needs}
 use Rattle.ohdr_attribute.proofs.name_and_value.Statement.{statement}

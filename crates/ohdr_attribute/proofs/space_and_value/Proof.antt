@@ -1,5 +1,5 @@
 use Rattle.ohdr_dataspace.specs.DataSpaces.{dataSpace}
-use Rattle.ohdr_attribute.specs.Facts.{read-forward}
+use Rattle.format.specs.Standing.{read-forward}
 use Rattle.ohdr_attribute.specs.Attributes.{spaceValue}
 use Rattle.format.specs.Steps.{read-here, read-bind, read-skip}
 use borrow.Author.Needs.{needs}
