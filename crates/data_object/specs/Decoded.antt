@@ -28,6 +28,11 @@ abbrev pub counted : Out Walked → Out ℕ
 counted (found w q) = found (w .entries) q
 counted (refused n) = refused n
 
+-- and the rows, of a refusal none
+abbrev pub rowsIn : Out Walked → ℕ
+rowsIn (found w q) = w .rows
+rowsIn (refused n) = 0
+
 -- the records that are handed back
 abbrev pub winsIn : DataObject → Wins
 winsIn r = record { ds = r .ds; dt = r .dt; li = r .li; gi = r .gi; ai = r .ai; «data» = r .«data» }
@@ -48,8 +53,8 @@ module _ (file : List ℕ) (offsets lengths end at n : ℕ) where
     pub table : t ≡ tableOf n items
     pub records : wins ≡ winsOf (messagesOf items)
 
-  -- a header that is turned back: it has no such reading, the table is all zero, and no record but the defaults is handed back
-  pub record TurnedBack (wins : Wins) (t : List ℕ) : Type 0 where
+  -- a header that is refused: it has no such reading, the table is all zero, and no record but the defaults is handed back
+  pub record Rejected (wins : Wins) (t : List ℕ) : Type 0 where
     pub none : (next : ℕ) (xs : List Item) → Readable next xs → ⊥
     pub table : t ≡ replicate n 0
     pub records : wins ≡ defaults
@@ -57,12 +62,13 @@ module _ (file : List ℕ) (offsets lengths end at n : ℕ) where
   -- by the answer
   abbrev pub Meant : Answer → Wins → List ℕ → Type 0
   Meant (answers.Read next count) wins t = Accepted next count wins t
-  Meant (answers.Refused r) wins t = TurnedBack wins t
+  Meant (answers.Refused r) wins t = Rejected wins t
 
-  -- The contract. The definition gives next position and count, or the refusal's number. What is accepted has a reading, with its end, its
+  -- The contract. The definition gives next position, count and rows, or the refusal's number. What is accepted has a reading, with its end, its
   -- entries, its messages in the table and its records; and whatever has a reading is accepted, with it.
   pub record Decoded (r : DataObject) (t : List ℕ) : Type 0 where
     pub answer : answerOut (r .answer) ≡ counted (decode file offsets lengths end at (replicate n 0))
+    pub rows : r .rows ≡ rowsIn (decode file offsets lengths end at (replicate n 0))
     pub meant : Meant (r .answer) (winsIn r) t
     pub accepts : (next : ℕ) (xs : List Item) → Readable next xs → r .answer ≡ answers.Read next (length xs)
 

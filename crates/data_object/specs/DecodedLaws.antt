@@ -41,19 +41,21 @@ use Rattle.data_object_records.specs.declared.FieldsRead.{FieldsRead}
 use Rattle.data_object_records.specs.declared.FieldsRead.the-variants as fields
 use Rattle.data_object_records.specs.Winners.{lastIn, winner}
 use Rattle.data_object_records.specs.WinnerLaws.{all-bodied, Won, won, space-won, type-won, link-won, group-won, info-won, data-won}
-use Rattle.data_object.specs.Decoded.{answerOut, counted, winsIn, Readable, Accepted, TurnedBack, Meant, Decoded}
+use Rattle.data_object.specs.Decoded.{answerOut, counted, rowsIn, winsIn, Readable, Accepted, Rejected, Meant, Decoded}
 use Rattle.data_object.specs.declared.Answer.{Answer}
 use Rattle.data_object.specs.declared.Answer.the-variants as answers
 use Rattle.data_object.specs.declared.DataObject.{DataObject}
 
--- a refusal, and the defaults
-pub record Back (x : Refusal) (r : DataObject) : Type 0 where
+-- a refusal, no row, and the defaults
+pub record RejectedAs (x : Refusal) (r : DataObject) : Type 0 where
   pub answer : r .answer ≡ answers.Refused x
+  pub rows : r .rows ≡ 0
   pub records : winsIn r ≡ defaults
 
 -- the end of a walk, and the records read at the last bodies of its table
 pub record Built (file t : List ℕ) (p : Progress) (s : State) (r : DataObject) : Type 0 where
   pub answer : r .answer ≡ answers.Read (p .at) (p .entries)
+  pub rows : r .rows ≡ p .rows
   pub ds : r .ds ≡ winner file (dataSpace s) defaultDataSpace (lastIn t 1 (p .rows))
   pub dt : r .dt ≡ winner file (dataType typeLevels) defaultDataType (lastIn t 3 (p .rows))
   pub li : r .li ≡ winner file (linkInfo s) defaultLinkInfo (lastIn t 2 (p .rows))
@@ -71,6 +73,11 @@ sized flags =
 
 abbrev flagged : Format HeaderFields
 flagged = number 1 (λ flags. check (not (bit flags 4)) 6 (sized flags))
+
+-- the walk that an answer, a row count and a table tell of
+abbrev pub walkedBy : Answer → ℕ → List ℕ → Out Walked
+walkedBy (answers.Read next count) rows t = found (record { entries = count; rows = rows; table = t }) next
+walkedBy (answers.Refused x) rows t = refused (refusalNumber x)
 
 -- a header's fields, and then its messages
 module _ (file : List ℕ) (s : State) (at : ℕ) (t : List ℕ) {r : FieldsRead} (f : fieldsOut r ≡ read file headerFields at) where
@@ -144,11 +151,40 @@ module _ (file : List ℕ) (offsets lengths end at n : ℕ) where
   complete next xs r =
       choose-yes _ _ (allowed (r .widths)) ∙ choose-yes _ _ (le-leb _ _ (r .small)) ∙ header-complete file (stateFor offsets lengths end) at n next xs (r .within)
 
+  -- The contract says what the definition gives, the table with it, and that its rows are in the table.
+  module _ (r : DataObject) (t : List ℕ) (d : Decoded file offsets lengths end at n r t) where
+    read-rows : (next count : ℕ) (wins : Wins) (a : Accepted file offsets lengths end at n next count wins t) → r .rows ≡ messages (a .items)
+    read-rows next count wins a = d .rows ∙ ap rowsIn (complete next (a .items) (a .readable))
+
+    pub listed : walkedBy (r .answer) (r .rows) t ≡ decode file offsets lengths end at (replicate n 0)
+    listed = go (r .answer) (winsIn r) (d .answer) (d .meant)
+      where
+        back : (x : Refusal) (y : Out Walked) → refused (refusalNumber x) ≡ counted y → refused (refusalNumber x) ≡ y
+        back x (found w q) e = absurd (never e)
+        back x (refused m) e = let z : refusalNumber x ≡ m = cc in ap refused z
+
+        go : (a : Answer) (w : Wins) → answerOut a ≡ counted (decode file offsets lengths end at (replicate n 0)) → Meant file offsets lengths end at n a w t
+            → walkedBy a (r .rows) t ≡ decode file offsets lengths end at (replicate n 0)
+        go (answers.Read next count) w e m = rw (m .entries, read-rows next count w m, m .table) (sym (complete next (m .items) (m .readable)))
+        go (answers.Refused x) w e m = back x (decode file offsets lengths end at (replicate n 0)) e
+
+    pub rows-room : r .rows ≤ n / 10
+    rows-room = go (r .answer) (winsIn r) (d .answer) (d .meant)
+      where
+        none : (x : Refusal) (y : Out Walked) → refused (refusalNumber x) ≡ counted y → rowsIn y ≡ 0
+        none x (found w q) e = absurd (never e)
+        none x (refused m) e = refl
+
+        go : (a : Answer) (w : Wins) → answerOut a ≡ counted (decode file offsets lengths end at (replicate n 0)) → Meant file offsets lengths end at n a w t → r .rows ≤ n / 10
+        go (answers.Read next count) w e m = omega (arith, read-rows next count w m, m .readable .within .room)
+        go (answers.Refused x) w e m = omega (arith, d .rows, none x (decode file offsets lengths end at (replicate n 0)) e)
+
   -- a refused header
-  pub back-decoded : (x : Refusal) (r : DataObject) (t : List ℕ) → decode file offsets lengths end at (replicate n 0) ≡ refused (refusalNumber x) → Back x r → t ≡ replicate n 0 → Decoded file offsets lengths end at n r t
-  back-decoded x r t e b z =
+  pub rejected-decoded : (x : Refusal) (r : DataObject) (t : List ℕ) → decode file offsets lengths end at (replicate n 0) ≡ refused (refusalNumber x) → RejectedAs x r → t ≡ replicate n 0 → Decoded file offsets lengths end at n r t
+  rejected-decoded x r t e b z =
       record {
         answer = ap answerOut (b .answer) ∙ sym (ap counted e);
+        rows = b .rows ∙ sym (ap rowsIn e);
         meant = rw (b .answer) (record { none = none; table = z; records = b .records });
         accepts = λ next xs y. absurd (none next xs y);
       }
@@ -186,6 +222,7 @@ module _ (file : List ℕ) (offsets lengths end at n : ℕ) where
         let d = goes-on (replicate n 0) m small ∙ e in
         record {
           answer = ap answerOut (b .answer) ∙ sym (ap counted d);
+          rows = b .rows ∙ sym (ap rowsIn d);
           meant = rw (b .answer) (record { items = reading .items; readable = readable; entries = reading .entries; table = reading .table; records = records r b });
           accepts = λ next xs y. b .answer ∙ same next xs (sym d ∙ complete next xs y);
         }

@@ -29,17 +29,19 @@ ghost use Rattle.parser.specs.States.{Widths};
 ghost use Rattle.ohdr_entry.specs.Code.{walkOut};
 ghost use Rattle.data_object_records.specs.Headers.{header as headerOf};
 ghost use Rattle.data_object.specs.Decoded.{Decoded, bytesOf};
-ghost use Rattle.data_object.specs.DecodedLaws.{Built, Back};
+ghost use Rattle.data_object.specs.DecodedLaws.{Built, RejectedAs};
 
-// The next position and the entries read, or why the header is turned back.
+// The next position and the entries read, or why the header is refused.
 pub enum Answer {
     Read(usize, usize),
     Refused(Refusal),
 }
 
-// An object header: the answer, and the records that win; the defaults where it is turned back.
+// An object header: the answer, the rows of the table that are filled, and the records that win; no
+// row and the defaults where it is refused.
 pub struct DataObject {
     pub answer: Answer,
+    pub rows: usize,
     pub dt: DataType,
     pub ds: DataSpace,
     pub li: LinkInfo,
@@ -59,9 +61,9 @@ fn clear(table: &mut [u64])
     }
 }
 
-// A header that is turned back hands no record out.
-fn turned_back(refusal: Refusal) -> DataObject
-    ensures { λ r. ⌜ Back refusal r ⌝ }
+// A header that is refused hands no record out.
+fn rejected(refusal: Refusal) -> DataObject
+    ensures { λ r. ⌜ RejectedAs refusal r ⌝ }
 {
     let dt = DataType::default();
     let ds = DataSpace::default();
@@ -70,6 +72,7 @@ fn turned_back(refusal: Refusal) -> DataObject
     let gi = GroupInfo::default();
     DataObject {
         answer: Answer::Refused(refusal),
+        rows: 0,
         dt,
         ds,
         li,
@@ -119,6 +122,7 @@ fn build_data_object_from_messages(
     let data = winning_data(file, table, rows, state);
     DataObject {
         answer: Answer::Read(progress.at, progress.entries),
+        rows,
         dt,
         ds,
         li,
@@ -129,7 +133,7 @@ fn build_data_object_from_messages(
 }
 
 // An object header at a position. Its messages go into the table, one a row, then zeros; a header
-// that is turned back leaves the table all zero.
+// that is refused leaves the table all zero.
 pub fn data_object(
     file: &[u8],
     position: u64,
@@ -144,16 +148,16 @@ pub fn data_object(
     let state = match State::new(offset_width, length_width, end_of_file) {
         NewState::Made(s) => s,
         NewState::Refused(r) => {
-            return turned_back(r);
+            return rejected(r);
         }
     };
     if 2147483648 < file.len() {
-        return turned_back(Refusal::FileSize);
+        return rejected(Refusal::FileSize);
     }
     match header_messages(file, table, position as usize, state) {
         Walk::Refused(r) => {
             clear(table);
-            turned_back(r)
+            rejected(r)
         }
         Walk::Done(progress) => build_data_object_from_messages(file, table, progress, state),
     }

@@ -1,10 +1,10 @@
 // The records of a data object, by value, as data_object.rs and fractal_heap.rs declare them, and
-// the reasons for which a header is turned back.
+// the reasons for which a header is refused.
 ghost use mathlib.Core.Path.{_≡_};
 ghost use Rattle.records.specs.Refusals.{refusalNumber};
 ghost use Rattle.records.specs.Defaults.{noDimensions, defaultDataSpace, defaultLinkInfo, defaultGroupInfo, defaultAttributeInfo, defaultDataType};
 
-// Why a header is turned back. `refusalNumber` gives each its number.
+// Why a header is refused. `refusalNumber` gives each its number.
 pub enum Refusal {
     // 1: width not 2 to 8
     Width,

@@ -1,4 +1,4 @@
-use Rattle.data_object.specs.DecodedLaws.{no-width, too-large, goes-on, back-decoded, rows-inside, built-decoded}
+use Rattle.data_object.specs.DecodedLaws.{no-width, too-large, goes-on, rejected-decoded, rows-inside, built-decoded}
 use Rattle.data_object_records.specs.Headers.{header}
 use Rattle.ohdr_entry.specs.Loop.{met}
 use Rattle.ohdr_entry.specs.Code.{walkOut}
@@ -24,23 +24,23 @@ enum-known-s c = search needs
 enum-known-r : tie.Need-enum-known-r
 enum-known-r c = search needs
 
-turned-back-requires : tie.Need-turned-back-requires
-turned-back-requires c κs = search needs
+rejected-requires : tie.Need-rejected-requires
+rejected-requires c κs = search needs
 
 same-length : tie.Need-same-length
 same-length c = search needs
 
 returns : tie.Need-returns
-returns c = back-decoded (c .before .before .before .before .before .before .before .before .before .before .before .args .file .now) (c .before .before .before .before .before .before .before .before .before .before .before .args .offset-width) (c .before .before .before .before .before .before .before .before .before .before .before .args .length-width) (c .before .before .before .before .before .before .before .before .before .before .before .args .end-of-file) (c .before .before .before .before .before .before .before .before .before .before .before .args .position) (length (c .before .before .before .before .before .before .before .before .before .before .before .args .table .now)) (c .before .before .r .given .0 .0) _ _ (no-width (c .before .before .before .before .before .before .before .before .before .before .before .args .file .now) (c .before .before .before .before .before .before .before .before .before .before .before .args .offset-width) (c .before .before .before .before .before .before .before .before .before .before .before .args .length-width) (c .before .before .before .before .before .before .before .before .before .before .before .args .end-of-file) (c .before .before .before .before .before .before .before .before .before .before .before .args .position) (length (c .before .before .before .before .before .before .before .before .before .before .before .args .table .now)) _ (sym (c .before .before .before .before .new .ensures) ∙ c .before .before .r .given .1)) (c .turned-back .ensures) (c .before .before .before .before .before .before .before .clear .ensures)
+returns c = rejected-decoded (c .before .before .before .before .before .before .before .before .before .before .before .args .file .now) (c .before .before .before .before .before .before .before .before .before .before .before .args .offset-width) (c .before .before .before .before .before .before .before .before .before .before .before .args .length-width) (c .before .before .before .before .before .before .before .before .before .before .before .args .end-of-file) (c .before .before .before .before .before .before .before .before .before .before .before .args .position) (length (c .before .before .before .before .before .before .before .before .before .before .before .args .table .now)) (c .before .before .r .given .0 .0) _ _ (no-width (c .before .before .before .before .before .before .before .before .before .before .before .args .file .now) (c .before .before .before .before .before .before .before .before .before .before .before .args .offset-width) (c .before .before .before .before .before .before .before .before .before .before .before .args .length-width) (c .before .before .before .before .before .before .before .before .before .before .before .args .end-of-file) (c .before .before .before .before .before .before .before .before .before .before .before .args .position) (length (c .before .before .before .before .before .before .before .before .before .before .before .args .table .now)) _ (sym (c .before .before .before .before .new .ensures) ∙ c .before .before .r .given .1)) (c .rejected .ensures) (c .before .before .before .before .before .before .before .clear .ensures)
 
-turned-back-requires-2 : tie.Need-turned-back-requires-2
-turned-back-requires-2 c κs = search needs
+rejected-requires-2 : tie.Need-rejected-requires-2
+rejected-requires-2 c κs = search needs
 
 same-length-2 : tie.Need-same-length-2
 same-length-2 c = search needs
 
 returns-2 : tie.Need-returns-2
-returns-2 c = back-decoded (c .before .before .before .before .before .before .before .before .before .before .before .before .args .file .now) (c .before .before .before .before .before .before .before .before .before .before .before .before .args .offset-width) (c .before .before .before .before .before .before .before .before .before .before .before .before .args .length-width) (c .before .before .before .before .before .before .before .before .before .before .before .before .args .end-of-file) (c .before .before .before .before .before .before .before .before .before .before .before .before .args .position) (length (c .before .before .before .before .before .before .before .before .before .before .before .before .args .table .now)) refusals.FileSize _ _ (too-large (c .before .before .before .before .before .before .before .before .before .before .before .before .args .file .now) (c .before .before .before .before .before .before .before .before .before .before .before .before .args .offset-width) (c .before .before .before .before .before .before .before .before .before .before .before .before .args .length-width) (c .before .before .before .before .before .before .before .before .before .before .before .before .args .end-of-file) (c .before .before .before .before .before .before .before .before .before .before .before .before .args .position) (length (c .before .before .before .before .before .before .before .before .before .before .before .before .args .table .now)) _ (sym (c .before .before .before .before .before .new .ensures) ∙ c .before .before .before .s .given .1) (c .before .if1 .taken)) (c .turned-back2 .ensures) (c .before .before .before .before .before .before .before .before .clear .ensures)
+returns-2 c = rejected-decoded (c .before .before .before .before .before .before .before .before .before .before .before .before .args .file .now) (c .before .before .before .before .before .before .before .before .before .before .before .before .args .offset-width) (c .before .before .before .before .before .before .before .before .before .before .before .before .args .length-width) (c .before .before .before .before .before .before .before .before .before .before .before .before .args .end-of-file) (c .before .before .before .before .before .before .before .before .before .before .before .before .args .position) (length (c .before .before .before .before .before .before .before .before .before .before .before .before .args .table .now)) refusals.FileSize _ _ (too-large (c .before .before .before .before .before .before .before .before .before .before .before .before .args .file .now) (c .before .before .before .before .before .before .before .before .before .before .before .before .args .offset-width) (c .before .before .before .before .before .before .before .before .before .before .before .before .args .length-width) (c .before .before .before .before .before .before .before .before .before .before .before .before .args .end-of-file) (c .before .before .before .before .before .before .before .before .before .before .before .before .args .position) (length (c .before .before .before .before .before .before .before .before .before .before .before .before .args .table .now)) _ (sym (c .before .before .before .before .before .new .ensures) ∙ c .before .before .before .s .given .1) (c .before .if1 .taken)) (c .rejected2 .ensures) (c .before .before .before .before .before .before .before .before .clear .ensures)
 
 header-messages-requires : tie.Need-header-messages-requires
 header-messages-requires c κs = (made-widths (c .before .before .before .before .before .before .before .before .before .before .before .before .args .offset-width) (c .before .before .before .before .before .before .before .before .before .before .before .before .args .length-width) (c .before .before .before .before .before .before .before .before .before .before .before .before .args .end-of-file) (c .before .before .before .s .given .0 .0) (sym (c .before .before .before .before .before .new .ensures) ∙ c .before .before .before .s .given .1), omega arith)
@@ -51,8 +51,8 @@ enum-known-r-2 c = search needs
 clear-requires-2 : tie.Need-clear-requires-2
 clear-requires-2 c κs = search needs
 
-turned-back-requires-3 : tie.Need-turned-back-requires-3
-turned-back-requires-3 c κs = search needs
+rejected-requires-3 : tie.Need-rejected-requires-3
+rejected-requires-3 c κs = search needs
 
 enum-known-progress : tie.Need-enum-known-progress
 enum-known-progress c = search needs
@@ -64,7 +64,7 @@ same-length-3 : tie.Need-same-length-3
 same-length-3 c = c .before .before .before .clear2 .kept .0 ∙ c .before .before .before .before .before .before .before .before .before .before .header-messages .kept .1 .0 ∙ c .before .before .before .before .before .before .before .before .before .before .before .before .before .before .before .before .before .before .before .clear .kept .0
 
 returns-3 : tie.Need-returns-3
-returns-3 c = back-decoded (c .before .before .before .before .before .before .before .before .before .before .before .before .before .before .before .before .before .before .before .before .before .before .before .args .file .now) (c .before .before .before .before .before .before .before .before .before .before .before .before .before .before .before .before .before .before .before .before .before .before .before .args .offset-width) (c .before .before .before .before .before .before .before .before .before .before .before .before .before .before .before .before .before .before .before .before .before .before .before .args .length-width) (c .before .before .before .before .before .before .before .before .before .before .before .before .before .before .before .before .before .before .before .before .before .before .before .args .end-of-file) (c .before .before .before .before .before .before .before .before .before .before .before .before .before .before .before .before .before .before .before .before .before .before .before .args .position) (length (c .before .before .before .before .before .before .before .before .before .before .before .before .before .before .before .before .before .before .before .before .before .before .before .args .table .now)) (c .before .before .before .before .before .before .r2 .given .0 .0) _ _ (goes-on (c .before .before .before .before .before .before .before .before .before .before .before .before .before .before .before .before .before .before .before .before .before .before .before .args .file .now) (c .before .before .before .before .before .before .before .before .before .before .before .before .before .before .before .before .before .before .before .before .before .before .before .args .offset-width) (c .before .before .before .before .before .before .before .before .before .before .before .before .before .before .before .before .before .before .before .before .before .before .before .args .length-width) (c .before .before .before .before .before .before .before .before .before .before .before .before .before .before .before .before .before .before .before .before .before .before .before .args .end-of-file) (c .before .before .before .before .before .before .before .before .before .before .before .before .before .before .before .before .before .before .before .before .before .before .before .args .position) (length (c .before .before .before .before .before .before .before .before .before .before .before .before .before .before .before .before .before .before .before .before .before .before .before .args .table .now)) _ (sym (c .before .before .before .before .before .before .before .before .before .before .before .before .before .before .before .before .new .ensures) ∙ c .before .before .before .before .before .before .before .before .before .before .before .before .before .before .s .given .1) (c .before .before .before .before .before .before .before .before .before .before .before .before .if1 .left) ∙ ap (header (c .before .before .before .before .before .before .before .before .before .before .before .before .before .before .before .before .before .before .before .before .before .before .before .args .file .now) (c .before .before .before .before .before .before .before .before .before .before .before .before .before .before .s .given .0 .0) (c .before .before .before .before .before .before .before .before .before .before .before .before .before .before .before .before .before .before .before .before .before .before .before .args .position)) (sym (c .before .before .before .before .before .before .before .before .before .before .before .before .before .before .before .before .before .before .before .clear .ensures)) ∙ met (λ w. walkOut w (c .before .before .before .before .before .before .before .before .before .before .header-messages .last .1 .0)) (c .before .before .before .before .before .before .before .before .before .before .header-messages .ensures) (c .before .before .before .before .before .before .r2 .given .1)) (c .turned-back3 .ensures) (c .before .before .before .clear2 .ensures ∙ ap (λ (k : ℕ). replicate k 0) (c .before .before .before .before .before .before .before .before .before .before .header-messages .kept .1 .0 ∙ c .before .before .before .before .before .before .before .before .before .before .before .before .before .before .before .before .before .before .before .clear .kept .0))
+returns-3 c = rejected-decoded (c .before .before .before .before .before .before .before .before .before .before .before .before .before .before .before .before .before .before .before .before .before .before .before .args .file .now) (c .before .before .before .before .before .before .before .before .before .before .before .before .before .before .before .before .before .before .before .before .before .before .before .args .offset-width) (c .before .before .before .before .before .before .before .before .before .before .before .before .before .before .before .before .before .before .before .before .before .before .before .args .length-width) (c .before .before .before .before .before .before .before .before .before .before .before .before .before .before .before .before .before .before .before .before .before .before .before .args .end-of-file) (c .before .before .before .before .before .before .before .before .before .before .before .before .before .before .before .before .before .before .before .before .before .before .before .args .position) (length (c .before .before .before .before .before .before .before .before .before .before .before .before .before .before .before .before .before .before .before .before .before .before .before .args .table .now)) (c .before .before .before .before .before .before .r2 .given .0 .0) _ _ (goes-on (c .before .before .before .before .before .before .before .before .before .before .before .before .before .before .before .before .before .before .before .before .before .before .before .args .file .now) (c .before .before .before .before .before .before .before .before .before .before .before .before .before .before .before .before .before .before .before .before .before .before .before .args .offset-width) (c .before .before .before .before .before .before .before .before .before .before .before .before .before .before .before .before .before .before .before .before .before .before .before .args .length-width) (c .before .before .before .before .before .before .before .before .before .before .before .before .before .before .before .before .before .before .before .before .before .before .before .args .end-of-file) (c .before .before .before .before .before .before .before .before .before .before .before .before .before .before .before .before .before .before .before .before .before .before .before .args .position) (length (c .before .before .before .before .before .before .before .before .before .before .before .before .before .before .before .before .before .before .before .before .before .before .before .args .table .now)) _ (sym (c .before .before .before .before .before .before .before .before .before .before .before .before .before .before .before .before .new .ensures) ∙ c .before .before .before .before .before .before .before .before .before .before .before .before .before .before .s .given .1) (c .before .before .before .before .before .before .before .before .before .before .before .before .if1 .left) ∙ ap (header (c .before .before .before .before .before .before .before .before .before .before .before .before .before .before .before .before .before .before .before .before .before .before .before .args .file .now) (c .before .before .before .before .before .before .before .before .before .before .before .before .before .before .s .given .0 .0) (c .before .before .before .before .before .before .before .before .before .before .before .before .before .before .before .before .before .before .before .before .before .before .before .args .position)) (sym (c .before .before .before .before .before .before .before .before .before .before .before .before .before .before .before .before .before .before .before .clear .ensures)) ∙ met (λ w. walkOut w (c .before .before .before .before .before .before .before .before .before .before .header-messages .last .1 .0)) (c .before .before .before .before .before .before .before .before .before .before .header-messages .ensures) (c .before .before .before .before .before .before .r2 .given .1)) (c .rejected3 .ensures) (c .before .before .before .clear2 .ensures ∙ ap (λ (k : ℕ). replicate k 0) (c .before .before .before .before .before .before .before .before .before .before .header-messages .kept .1 .0 ∙ c .before .before .before .before .before .before .before .before .before .before .before .before .before .before .before .before .before .before .before .clear .kept .0))
 
 same-length-4 : tie.Need-same-length-4
 same-length-4 c = c .before .before .before .before .before .before .before .header-messages .kept .1 .0 ∙ c .before .before .before .before .before .before .before .before .before .before .before .before .before .before .before .before .clear .kept .0
@@ -80,16 +80,16 @@ data-object-spec =
     new-requires
     enum-known-s
     enum-known-r
-    turned-back-requires
+    rejected-requires
     same-length
     returns
-    turned-back-requires-2
+    rejected-requires-2
     same-length-2
     returns-2
     header-messages-requires
     enum-known-r-2
     clear-requires-2
-    turned-back-requires-3
+    rejected-requires-3
     enum-known-progress
     build-data-object-from-messages-requires
     same-length-3

@@ -1,8 +1,8 @@
 use Rattle.data_object.specs.DecodedLaws.{wins≡}
 use mathlib.Core.Path.{refl}
 use borrow.Author.Needs.{needs}
-use Rattle.data_object.proofs.turned_back.Statement.{statement}
-use Rattle.data_object.proofs.turned_back.Tie as tie
+use Rattle.data_object.proofs.rejected.Statement.{statement}
+use Rattle.data_object.proofs.rejected.Tie as tie
 
 default-requires : tie.Need-default-requires
 default-requires c κs = search needs
@@ -20,10 +20,10 @@ default-requires-5 : tie.Need-default-requires-5
 default-requires-5 c κs = search needs
 
 returns : tie.Need-returns
-returns c = record { answer = refl; records = wins≡ (c .before .before .before .default2 .ensures) (c .before .before .before .before .default .ensures) (c .before .before .default3 .ensures) (c .default5 .ensures) (c .before .default4 .ensures) refl }
+returns c = record { answer = refl; rows = refl; records = wins≡ (c .before .before .before .default2 .ensures) (c .before .before .before .before .default .ensures) (c .before .before .default3 .ensures) (c .default5 .ensures) (c .before .default4 .ensures) refl }
 
-pub turned-back-spec : {M : Type 1} → statement M
-turned-back-spec =
+pub rejected-spec : {M : Type 1} → statement M
+rejected-spec =
     tie.close
     (tie.spec
     default-requires
