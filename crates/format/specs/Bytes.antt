@@ -26,7 +26,7 @@ pub record Trimmed (s : List ℕ) (p n l : ℕ) : Type 0 where
   pub zeros : (i : ℕ) → l ≤ i → i < n → getD s (p + i) 0 ≡ 0
   pub last : (l ≡ 0) ⊎ (getD s (p + (l - 1)) 0 ≡ 0 → ⊥)
 
--- how many bytes from p on are not zero, at most so many
+-- how many bytes from p on stand before the first zero, at most so many; past the file all are zero
 unfoldable pub nameLength : List ℕ → ℕ → ℕ → ℕ
 nameLength s p zero = zero
 nameLength s p (suc limit) = elim (eqb (getD s p 0) 0) [ true ↦ zero | false ↦ suc (nameLength s (p + 1) limit) ]

@@ -11,7 +11,7 @@ use Rattle.grammar.specs.Message.{Message, Held, message, continuation}
 abbrev pub signature : ℕ → ℕ → Format (Unit {0})
 signature mark refusal = number 4 (λ value. check (eqb value mark) refusal nothing)
 
--- `OCHK`, the bytes 4F 43 48 4B
+-- IV.A.2.q: `OCHK`, the bytes 4F 43 48 4B
 unfoldable pub ochk : Format (Unit {0})
 ochk = signature 0x4B48434F 20
 

@@ -73,7 +73,7 @@ fn wide(b: u8) -> u64
     b as u64
 }
 
-// The number in 1, 2, 3, 4 or 8 bytes that the file has. Each compiles to a load.
+// The number in 1, 2, 3, 4 or 8 bytes that the file has.
 fn bytes_1(file: &[u8], at: usize) -> u64
     requires { ⌜ at + 1 ≤ length (now file) ⌝ }
     ensures { λ r. ⌜ (r ≡ le (now (file .entry)) at 1) × (r < 256) ⌝ }

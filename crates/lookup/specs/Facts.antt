@@ -1,5 +1,5 @@
 -- A row bears a name where it has one of the same length with the same bytes. Assumes nothing.
-use Prim.Native.Nat.{ℕ, _+_, _*_, _≤_, _<_}
+use Prim.Native.Nat.{ℕ, _+_, _*_, _/_, _≤_, _<_}
 use mathlib.Core.Path.{_≡_, sym, _∙_, ap}
 use mathlib.Core.List.{List}
 use native.Mathlib.Omega.{arith}
@@ -7,7 +7,9 @@ use lib.ListN.{length, take, drop, getD, length-drop}
 use lib.Seq.{ext-getD, getD-take, getD-drop, length-take-le}
 use Rattle.lookup.specs.declared.RowName.{RowName}
 use Rattle.lookup.specs.declared.RowName.the-variants as names
-use Rattle.lookup.specs.Named.{word, Named, HasName, NameAt}
+use Rattle.lookup.specs.declared.LookupAnswer.{LookupAnswer}
+use Rattle.lookup.specs.declared.LookupAnswer.the-variants as answers
+use Rattle.lookup.specs.Named.{word, Named, HasName, NameAt, NoneBelow, Looked}
 
 -- a part of the file has the length asked for, and the file's bytes
 part-length : (file : List ℕ) (p n : ℕ) → p + n ≤ length file → length (take n (drop p file)) ≡ n
@@ -74,3 +76,7 @@ bears {file} {table} {name} {i} {p} {r} h e same =
 -- the first word of a row
 pub first-word : (table : List ℕ) (i : ℕ) → word table i 0 ≡ getD table (i * 10) 0
 first-word table i = ap (λ (m : ℕ). getD table m 0) (omega arith)
+
+-- an answer that is still nothing where no row has the name
+pub unfound : {file table name : List ℕ} {rows : ℕ} {r : LookupAnswer} → r ≡ answers.Nothing → rows ≤ length table / 10 → NoneBelow file table name rows → Looked file table rows name r
+unfound e h k = rw e (h, k)

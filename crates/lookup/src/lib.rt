@@ -55,6 +55,7 @@ pub fn lookup(file: &[u8], table: &[u64], rows: usize, name: &[u8]) -> LookupAns
     if table.len() / 10 < rows {
         return LookupAnswer::Refused(Refusal::Table);
     }
+    let mut answer = LookupAnswer::Nothing;
     let mut next = 0;
     'rows: while next < rows {
         let row = next;
@@ -69,7 +70,8 @@ pub fn lookup(file: &[u8], table: &[u64], rows: usize, name: &[u8]) -> LookupAns
             }
             k += 1;
         }
-        return LookupAnswer::At(row);
+        answer = LookupAnswer::At(row);
+        break 'rows;
     }
-    LookupAnswer::Nothing
+    answer
 }

@@ -100,15 +100,15 @@ member3 size =
     pick (ltb 0 size) (number 1 (λ byte-offset-of-member. nothing)) nothing))
 
 -- a compound's member before its type, version 1: with n the bytes of name and closing byte, (7 − n) mod 8 bytes follow them.
--- For every n that is 7 − n mod 8.
+-- For every n that is 7 − (n mod 8). Then a word, a word that is 0, and 27 bytes: not the standard's places (docs/DIFFERENCES.md, 37).
 unfoldable pub member1 : Format (Unit {0})
 member1 =
     name 255 (λ length.
     skip 1 (
     skip (7 - (length + 1) % 8) (
-    number 4 (λ byte-offset-of-member.
-    number 4 (λ dimensionality.
-    check (eqb dimensionality 0) 11 (
+    number 4 (λ offset-word.
+    number 4 (λ dimension-word.
+    check (eqb dimension-word 0) 11 (
     skip 27 nothing))))))
 
 unfoldable pub memberFields : ℕ → ℕ → Format (Unit {0})

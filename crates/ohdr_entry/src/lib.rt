@@ -114,8 +114,7 @@ fn message_entry(
     if 4096 <= entries {
         return Walk::Refused(Refusal::Entries);
     }
-    let state = header.state;
-    match entry_alone(file, at, header.flags, state) {
+    match entry_alone(file, at, header.flags, header.state) {
         EntryRead::Refused(r) => Walk::Refused(r),
         EntryRead::Message(figures, next) => {
             if rows < table.len() / 10 {

@@ -42,7 +42,7 @@ fill =
 abbrev pub emptyPart : Part
 emptyPart = record { position = 0; length = 0 }
 
--- the bytes from an address on; none where there are none
+-- the bytes from an address on; the empty part where the size is 0, whatever the address
 abbrev pub partOf : ℕ → ℕ → Part
 partOf address size = pick (eqb size 0) emptyPart (record { position = address; length = size })
 

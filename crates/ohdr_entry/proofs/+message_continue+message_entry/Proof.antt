@@ -316,7 +316,7 @@ message-entry-entry-alone-requires : (t : ℕ) → message-entry-lts.Need-entry-
   message-continue-below t,
   message-continue.Post,
 ) (message-entry-at t) message-entry.Post
-message-entry-entry-alone-requires t c κs = c .before .before .before .before .pre .1 .0
+message-entry-entry-alone-requires t c κs = c .before .before .before .pre .1 .0
 
 message-entry-enum-known-r : (t : ℕ) → message-entry-lts.Need-enum-known-r (
   entry-alone-reads.Asked,
@@ -348,6 +348,16 @@ message-entry-put-row-requires : (t : ℕ) → message-entry-lts.Need-put-row-re
 ) (message-entry-at t) message-entry.Post
 message-entry-put-row-requires t c κs = search needs
 
+message-entry-add-t28 : (t : ℕ) → message-entry-lts.Need-add-t28 (
+  entry-alone-reads.Asked,
+  entry-alone-reads.Learnt,
+  put-row-reads.Asked,
+  put-row-reads.Learnt,
+  message-continue-below t,
+  message-continue.Post,
+) (message-entry-at t) message-entry.Post
+message-entry-add-t28 t c = search needs
+
 message-entry-add-t29 : (t : ℕ) → message-entry-lts.Need-add-t29 (
   entry-alone-reads.Asked,
   entry-alone-reads.Learnt,
@@ -357,16 +367,6 @@ message-entry-add-t29 : (t : ℕ) → message-entry-lts.Need-add-t29 (
   message-continue.Post,
 ) (message-entry-at t) message-entry.Post
 message-entry-add-t29 t c = search needs
-
-message-entry-add-t30 : (t : ℕ) → message-entry-lts.Need-add-t30 (
-  entry-alone-reads.Asked,
-  entry-alone-reads.Learnt,
-  put-row-reads.Asked,
-  put-row-reads.Learnt,
-  message-continue-below t,
-  message-continue.Post,
-) (message-entry-at t) message-entry.Post
-message-entry-add-t30 t c = search needs
 
 message-entry-enum-known-continuation : (t : ℕ) → message-entry-lts.Need-enum-known-continuation (
   entry-alone-reads.Asked,
@@ -386,7 +386,7 @@ message-entry-returns-2 : (t : ℕ) → message-entry-lts.Need-returns-2 (
   message-continue-below t,
   message-continue.Post,
 ) (message-entry-at t) message-entry.Post
-message-entry-returns-2 t c = deep (c .before .before .before .before .before .before .before .before .before .args .file .now) (c .before .before .before .before .before .before .before .before .before .args .header) (c .before .before .before .before .before .before .before .before .before .args .levels) (c .before .before .before .before .before .before .before .before .before .args .from) (c .before .before .before .before .before .before .before .before .before .args .table .now) (c .before .before .before .before .before .before .if1 .left) (c .before .before .before .before .entry-alone .ensures) (c .before .before .continuation .given .1) (c .if3 .taken)
+message-entry-returns-2 t c = deep (c .before .before .before .before .before .before .before .before .args .file .now) (c .before .before .before .before .before .before .before .before .args .header) (c .before .before .before .before .before .before .before .before .args .levels) (c .before .before .before .before .before .before .before .before .args .from) (c .before .before .before .before .before .before .before .before .args .table .now) (c .before .before .before .before .before .if1 .left) (c .before .before .before .before .entry-alone .ensures) (c .before .before .continuation .given .1) (c .if3 .taken)
 
 message-entry-add-message-continue : (t : ℕ) → message-entry-lts.Need-add-message-continue (
   entry-alone-reads.Asked,
@@ -417,7 +417,7 @@ message-entry-message-continue-requires :
       message-continue-below t,
       message-continue.Post,
     ) (message-entry-at t) message-entry.Post
-message-entry-message-continue-requires t c κs = let k = ranged (c .before .before .before .before .before .before .before .before .before .before .args .file .now) (c .before .before .before .before .before .before .before .before .before .before .args .header) (c .before .before .before .before .before .before .before .before .before .before .args .levels) (c .before .before .before .before .before .before .before .before .before .before .args .from) (c .before .before .before .before .before .before .before .before .before .before .args .table .now) (c .before .before .before .before .before .before .before .if1 .left) (c .before .before .before .before .before .entry-alone .ensures) (c .before .before .before .continuation .given .1) in (omega (arith, c .before .before .before .before .before .before .before .before .before .before .pre .0, c .before .if3 .left), (c .before .before .before .before .before .before .before .before .before .before .pre .1 .0, omega (arith, c .before .before .before .before .before .before .before .before .before .before .pre .1), omega arith, k .least, omega (arith, k .within)))
+message-entry-message-continue-requires t c κs = let k = ranged (c .before .before .before .before .before .before .before .before .before .args .file .now) (c .before .before .before .before .before .before .before .before .before .args .header) (c .before .before .before .before .before .before .before .before .before .args .levels) (c .before .before .before .before .before .before .before .before .before .args .from) (c .before .before .before .before .before .before .before .before .before .args .table .now) (c .before .before .before .before .before .before .if1 .left) (c .before .before .before .before .before .entry-alone .ensures) (c .before .before .before .continuation .given .1) in (omega (arith, c .before .before .before .before .before .before .before .before .before .pre .0, c .before .if3 .left), (c .before .before .before .before .before .before .before .before .before .pre .1 .0, omega (arith, c .before .before .before .before .before .before .before .before .before .pre .1), omega arith, k .least, omega (arith, k .within)))
 
 message-entry-enum-known-r-2 : (t : ℕ) → message-entry-lts.Need-enum-known-r-2 (
   entry-alone-reads.Asked,
@@ -447,7 +447,7 @@ message-entry-returns-3 : (t : ℕ) → message-entry-lts.Need-returns-3 (
   message-continue-below t,
   message-continue.Post,
 ) (message-entry-at t) message-entry.Post
-message-entry-returns-3 t c = unread (c .before .before .before .before .before .before .before .before .args .file .now) (c .before .before .before .before .before .before .before .before .args .header) (c .before .before .before .before .before .before .before .before .args .levels) (c .before .before .before .before .before .before .before .before .args .from) (c .before .before .before .before .before .before .before .before .args .table .now) (c .before .before .before .before .before .if1 .left) (c .before .before .before .entry-alone .ensures) (c .before .r .given .1)
+message-entry-returns-3 t c = unread (c .before .before .before .before .before .before .before .args .file .now) (c .before .before .before .before .before .before .before .args .header) (c .before .before .before .before .before .before .before .args .levels) (c .before .before .before .before .before .before .before .args .from) (c .before .before .before .before .before .before .before .args .table .now) (c .before .before .before .before .if1 .left) (c .before .before .before .entry-alone .ensures) (c .before .r .given .1)
 
 message-entry-same-length : (t : ℕ) → message-entry-lts.Need-same-length (
   entry-alone-reads.Asked,
@@ -467,7 +467,7 @@ message-entry-returns-4 : (t : ℕ) → message-entry-lts.Need-returns-4 (
   message-continue-below t,
   message-continue.Post,
 ) (message-entry-at t) message-entry.Post
-message-entry-returns-4 t c = kept (c .before .before .before .before .before .before .before .before .before .before .before .before .before .args .file .now) (c .before .before .before .before .before .before .before .before .before .before .before .before .before .args .header) (c .before .before .before .before .before .before .before .before .before .before .before .before .before .args .levels) (c .before .before .before .before .before .before .before .before .before .before .before .before .before .args .from) (c .before .before .before .before .before .before .before .before .before .before .before .before .before .args .table .now) (c .before .before .before .before .before .before .before .before .before .before .if1 .left) (c .before .before .before .before .before .before .before .before .entry-alone .ensures) (c .before .before .before .before .before .before .figures .given .1) (c .before .before .before .before .if2 .taken) _ (c .before .before .put-row .ensures)
+message-entry-returns-4 t c = kept (c .before .before .before .before .before .before .before .before .before .before .before .before .args .file .now) (c .before .before .before .before .before .before .before .before .before .before .before .before .args .header) (c .before .before .before .before .before .before .before .before .before .before .before .before .args .levels) (c .before .before .before .before .before .before .before .before .before .before .before .before .args .from) (c .before .before .before .before .before .before .before .before .before .before .before .before .args .table .now) (c .before .before .before .before .before .before .before .before .before .if1 .left) (c .before .before .before .before .before .before .before .before .entry-alone .ensures) (c .before .before .before .before .before .before .figures .given .1) (c .before .before .before .before .if2 .taken) _ (c .before .before .put-row .ensures)
 
 message-entry-returns-5 : (t : ℕ) → message-entry-lts.Need-returns-5 (
   entry-alone-reads.Asked,
@@ -477,7 +477,7 @@ message-entry-returns-5 : (t : ℕ) → message-entry-lts.Need-returns-5 (
   message-continue-below t,
   message-continue.Post,
 ) (message-entry-at t) message-entry.Post
-message-entry-returns-5 t c = full (c .before .before .before .before .before .before .before .before .before .args .file .now) (c .before .before .before .before .before .before .before .before .before .args .header) (c .before .before .before .before .before .before .before .before .before .args .levels) (c .before .before .before .before .before .before .before .before .before .args .from) (c .before .before .before .before .before .before .before .before .before .args .table .now) (c .before .before .before .before .before .before .if1 .left) (c .before .before .before .before .entry-alone .ensures) (c .before .before .figures .given .1) (c .if2 .left)
+message-entry-returns-5 t c = full (c .before .before .before .before .before .before .before .before .args .file .now) (c .before .before .before .before .before .before .before .before .args .header) (c .before .before .before .before .before .before .before .before .args .levels) (c .before .before .before .before .before .before .before .before .args .from) (c .before .before .before .before .before .before .before .before .args .table .now) (c .before .before .before .before .before .if1 .left) (c .before .before .before .before .entry-alone .ensures) (c .before .before .figures .given .1) (c .if2 .left)
 
 message-entry-same-length-2 : (t : ℕ) → message-entry-lts.Need-same-length-2 (
   entry-alone-reads.Asked,
@@ -497,7 +497,7 @@ message-entry-returns-6 : (t : ℕ) → message-entry-lts.Need-returns-6 (
   message-continue-below t,
   message-continue.Post,
 ) (message-entry-at t) message-entry.Post
-message-entry-returns-6 t c = unopened (c .before .before .before .before .before .before .before .before .before .before .before .before .before .before .before .before .args .file .now) (c .before .before .before .before .before .before .before .before .before .before .before .before .before .before .before .before .args .header) (c .before .before .before .before .before .before .before .before .before .before .before .before .before .before .before .before .args .levels) (c .before .before .before .before .before .before .before .before .before .before .before .before .before .before .before .before .args .from) (c .before .before .before .before .before .before .before .before .before .before .before .before .before .before .before .before .args .table .now) (c .before .before .before .before .before .before .before .before .before .before .before .before .before .if1 .left) (c .before .before .before .before .before .before .before .before .before .before .before .entry-alone .ensures) (c .before .before .before .before .before .before .before .before .before .continuation .given .1) (c .before .before .before .before .before .before .before .if3 .left) (c .before .before .before .before .before .message-continue .last .1 .0) (c .before .before .before .before .before .message-continue .ensures) (c .before .r2 .given .1)
+message-entry-returns-6 t c = unopened (c .before .before .before .before .before .before .before .before .before .before .before .before .before .before .before .args .file .now) (c .before .before .before .before .before .before .before .before .before .before .before .before .before .before .before .args .header) (c .before .before .before .before .before .before .before .before .before .before .before .before .before .before .before .args .levels) (c .before .before .before .before .before .before .before .before .before .before .before .before .before .before .before .args .from) (c .before .before .before .before .before .before .before .before .before .before .before .before .before .before .before .args .table .now) (c .before .before .before .before .before .before .before .before .before .before .before .before .if1 .left) (c .before .before .before .before .before .before .before .before .before .before .before .entry-alone .ensures) (c .before .before .before .before .before .before .before .before .before .continuation .given .1) (c .before .before .before .before .before .before .before .if3 .left) (c .before .before .before .before .before .message-continue .last .1 .0) (c .before .before .before .before .before .message-continue .ensures) (c .before .r2 .given .1)
 
 message-entry-same-length-3 : (t : ℕ) → message-entry-lts.Need-same-length-3 (
   entry-alone-reads.Asked,
@@ -517,7 +517,7 @@ message-entry-returns-7 : (t : ℕ) → message-entry-lts.Need-returns-7 (
   message-continue-below t,
   message-continue.Post,
 ) (message-entry-at t) message-entry.Post
-message-entry-returns-7 t c = opened (c .before .before .before .before .before .before .before .before .before .before .before .before .before .before .before .before .args .file .now) (c .before .before .before .before .before .before .before .before .before .before .before .before .before .before .before .before .args .header) (c .before .before .before .before .before .before .before .before .before .before .before .before .before .before .before .before .args .levels) (c .before .before .before .before .before .before .before .before .before .before .before .before .before .before .before .before .args .from) (c .before .before .before .before .before .before .before .before .before .before .before .before .before .before .before .before .args .table .now) (c .before .before .before .before .before .before .before .before .before .before .before .before .before .if1 .left) (c .before .before .before .before .before .before .before .before .before .before .before .entry-alone .ensures) (c .before .before .before .before .before .before .before .before .before .continuation .given .1) (c .before .before .before .before .before .before .before .if3 .left) (c .before .before .before .before .before .message-continue .last .1 .0) (c .before .before .before .before .before .message-continue .ensures) (c .before .p .given .1)
+message-entry-returns-7 t c = opened (c .before .before .before .before .before .before .before .before .before .before .before .before .before .before .before .args .file .now) (c .before .before .before .before .before .before .before .before .before .before .before .before .before .before .before .args .header) (c .before .before .before .before .before .before .before .before .before .before .before .before .before .before .before .args .levels) (c .before .before .before .before .before .before .before .before .before .before .before .before .before .before .before .args .from) (c .before .before .before .before .before .before .before .before .before .before .before .before .before .before .before .args .table .now) (c .before .before .before .before .before .before .before .before .before .before .before .before .if1 .left) (c .before .before .before .before .before .before .before .before .before .before .before .entry-alone .ensures) (c .before .before .before .before .before .before .before .before .before .continuation .given .1) (c .before .before .before .before .before .before .before .if3 .left) (c .before .before .before .before .before .message-continue .last .1 .0) (c .before .before .before .before .before .message-continue .ensures) (c .before .p .given .1)
 
 pub +message-continue+message-entry-spec : {M : Type 1} → statement M
 +message-continue+message-entry-spec =
@@ -570,8 +570,8 @@ pub +message-continue+message-entry-spec : {M : Type 1} → statement M
     (message-entry-enum-known-r t)
     (message-entry-enum-known-figures t)
     (message-entry-put-row-requires t)
+    (message-entry-add-t28 t)
     (message-entry-add-t29 t)
-    (message-entry-add-t30 t)
     (message-entry-enum-known-continuation t)
     (message-entry-returns-2 t)
     (message-entry-add-message-continue t)
