@@ -1,10 +1,11 @@
 -- What the ways out of decoding say, put together. Assumes nothing.
-use Prim.Native.Nat.{ℕ, _+_, _-_, _*_, _/_, _%_, _^_, _≤_, _<_}
-use mathlib.Core.Path.{_≡_, refl, sym, ap, ap₂, _∙_}
+use Prim.Native.Nat.{ℕ, suc, _+_, _-_, _*_, _/_, _%_, _^_, _≤_, _<_}
+use mathlib.Core.Path.{_≡_, refl, sym, ap, ap₂, _∙_, subst}
 use mathlib.Core.Bool.{Bool, true, false, not, _&&_}
-use mathlib.Core.List.{List, [], _∷_, _++_}
+use mathlib.Core.List.{List, [], _∷_, _++_, append-assoc}
 use native.Mathlib.Omega.{arith}
-use lib.ListN.{length, replicate}
+use lib.ListN.{length, getD, take, drop, set, replicate, length-append, length-take, length-replicate, take-append-drop, replicate-append-replicate}
+use lib.Seq.{drop-cons, take-append-seam, set-at}
 use lib.Dec.{leb, eqb}
 use borrow.Author.Tests.{le-leb, lt-leb, leb-true}
 use Rattle.format.specs.Bits.{bit}
@@ -21,10 +22,12 @@ use Rattle.parser.specs.declared.State.{State}
 use Rattle.parser.specs.declared.NewState.the-variants as states
 use Rattle.parser.specs.States.{Widths, widthAllowed, stateOf}
 use Rattle.parser.specs.StateLaws.{made-widths}
+use Rattle.grammar.specs.Message.{Message}
 use Rattle.grammar.specs.Grammar.{Item}
 use Rattle.grammar.specs.Table.{encode, messagesOf, messages}
 use Rattle.grammar.specs.Walk.{Walked, choose}
-use Rattle.grammar.specs.WalkLaws.{choose-yes, choose-no, andThen-found, andThen-refused}
+use Rattle.grammar.specs.TableLaws.{length-encode}
+use Rattle.grammar.specs.WalkLaws.{choose-yes, choose-no, andThen-found, andThen-refused, state≡}
 use Rattle.ohdr_info.specs.Info.{linkInfo, groupInfo, attributeInfo}
 use Rattle.ohdr_storage.specs.Storage.{dataLayout, emptyPart}
 use Rattle.ohdr_datatype.specs.DataTypes.{dataType, typeLevels}
@@ -33,7 +36,8 @@ use Rattle.ohdr_entry.specs.declared.Progress.{Progress}
 use Rattle.ohdr_entry.specs.Code.{walkedOf, walkOf}
 use Rattle.ohdr_entry.specs.Loop.{met}
 use Rattle.data_object_records.specs.Headers.{Wins, defaults, winsOf, stateFor, ohdr, headerFields, header, decode}
-use Rattle.data_object_records.specs.HeaderLaws.{Within, tableOf, header-sound, header-complete}
+use Rattle.data_object_records.specs.HeaderLaws.{Within, tableOf, header-walks, header-sound, header-complete}
+use Rattle.data_object_records.specs.Contents.{header-refused}
 use Rattle.data_object_records.specs.HeaderLaws as headers
 use Rattle.data_object_records.specs.Answers.{fieldsOut}
 use Rattle.data_object_records.specs.declared.HeaderFields.{HeaderFields}
@@ -65,6 +69,36 @@ pub record Built (file t : List ℕ) (p : Progress) (s : State) (r : DataObject)
 
 pub wins≡ : {v w : Wins} → v .ds ≡ w .ds → v .dt ≡ w .dt → v .li ≡ w .li → v .gi ≡ w .gi → v .ai ≡ w .ai → v .«data» ≡ w .«data» → v ≡ w
 wins≡ a b c d e f = λ i. record { ds = a i; dt = b i; li = c i; gi = d i; ai = e i; «data» = f i }
+
+-- a table that is zero from a place on up to i: none of it yet, and one word more
+pub cleared-none : (t : List ℕ) (from : ℕ) → t ≡ take from t ++ (replicate (from - from) 0 ++ drop from t)
+cleared-none t from = let e : from - from ≡ 0 = omega arith in rw e (sym (take-append-drop from t))
+
+pub cleared-more : (t : List ℕ) (from i : ℕ) → from ≤ i → i < length t
+    → set (take from t ++ (replicate (i - from) 0 ++ drop i t)) i 0 ≡ take from t ++ (replicate (i + 1 - from) 0 ++ drop (i + 1) t)
+cleared-more t from i h l =
+    let a = take from t in
+    let z = replicate {A = ℕ} (i - from) 0 in
+    let y = getD t i 0 in
+    let ys = drop (suc i) t in
+    let n : length (a ++ z) ≡ i = omega (arith, length-append a z, length-take from t, length-replicate {A = ℕ} (i - from) 0) in
+    let d : i - from + 1 ≡ i + 1 - from = omega arith in
+    let e : suc i ≡ i + 1 = omega arith in
+    ap (λ (x : List ℕ). set (a ++ (z ++ x)) i 0) (drop-cons t i 0 l) ∙ ap (λ (x : List ℕ). set x i 0) (sym (append-assoc a z (y ∷ ys)))
+    ∙ set-at (a ++ z) y ys 0 i n ∙ append-assoc a z (0 ∷ ys)
+    ∙ ap (λ (x : List ℕ). a ++ x) (sym (append-assoc z (0 ∷ []) ys) ∙ ap (λ (x : List ℕ). x ++ ys) (replicate-append-replicate {A = ℕ} (i - from) 1 0)
+    ∙ ap₂ (λ (j k : ℕ). replicate j 0 ++ drop k t) d e)
+
+-- a whole table
+pub cleared-all : (t : List ℕ) → take 0 t ++ replicate (length t - 0) 0 ≡ replicate (length t) 0
+cleared-all t = let e : length t - 0 ≡ length t = omega arith in rw e
+
+-- a table that holds the rows of messages, cleared behind them
+emptied : (ms : List Message) (t u : List ℕ) (rows n : ℕ) → rows ≡ length ms → length u ≡ n → u ≡ encode ms ++ drop (length ms * 10) t
+    → take (rows * 10) u ++ replicate (length u - rows * 10) 0 ≡ encode ms ++ replicate (n - length ms * 10) 0
+emptied ms t u rows n r k e =
+    let d : rows * 10 ≡ length (encode ms) = omega (arith, length-encode ms) in
+    rw (k, e, d, take-append-seam (encode ms) (drop (length ms * 10) t), length-encode ms)
 
 -- what follows the version, and the flags
 abbrev sized : ℕ → Format HeaderFields
@@ -191,6 +225,25 @@ module _ (file : List ℕ) (offsets lengths end at n : ℕ) where
     where
       none : (next : ℕ) (xs : List Item) → Readable file offsets lengths end at n next xs → ⊥
       none next xs y = never (sym e ∙ complete next xs y)
+
+  -- a walk that was refused, in a table of any contents
+  pub walk-refused : {s : State} (m : stateOf offsets lengths end ≡ states.Made s) (small : length file ≤ 2147483648) (t : List ℕ) (x : Refusal) → length t ≡ n
+      → header file s at t ≡ refused (refusalNumber x) → decode file offsets lengths end at (replicate n 0) ≡ refused (refusalNumber x)
+  walk-refused {s} m small t x l e =
+      goes-on (replicate n 0) m small ∙ header-refused file s at (refusalNumber x) t (replicate n 0) (l ∙ sym (length-replicate {A = ℕ} n 0)) e
+
+  -- a walk that was done, in a table of any contents: cleared behind its rows, the table is that of a walk over zeros
+  module _ (s : State) (p : Progress) (t u : List ℕ) (l : length t ≡ n) (k : length u ≡ n) (e : header file s at t ≡ found (walkedOf p u) (p .at)) where
+    walks : headers.Walks file s at t (p .at) (walkedOf p u)
+    walks = header-walks file s at t (p .at) (walkedOf p u) e
+
+    pub rows-fit : p .rows * 10 ≤ length u
+    rows-fit = omega (arith, walks .rows, walks .within .room)
+
+    pub walk-cleared : (v : List ℕ) → v ≡ take (p .rows * 10) u ++ replicate (length u - p .rows * 10) 0 → header file s at (replicate n 0) ≡ found (walkedOf p v) (p .at)
+    walk-cleared v c =
+        header-complete file s at n (p .at) (walks .items) (subst (λ (j : ℕ). Within file s at j (p .at) (walks .items)) l (walks .within))
+        ∙ sym (ap (λ (w : Walked). found w (p .at)) (state≡ (walks .entries) (walks .rows) (c ∙ emptied (messagesOf (walks .items)) t u (p .rows) n (walks .rows) k (walks .table))))
 
   -- an accepted one
   module _ {s : State} (m : stateOf offsets lengths end ≡ states.Made s) (small : length file ≤ 2147483648) (p : Progress) (t : List ℕ)

@@ -2,6 +2,7 @@
 // build_data_object_from_messages), and the bytes of its data.
 use data_object_records::FieldsRead;
 use data_object_records::header_fields;
+use data_object_records::last_rows;
 use data_object_records::winning_attribute_info;
 use data_object_records::winning_data;
 use data_object_records::winning_data_space;
@@ -23,8 +24,9 @@ use records::LinkInfo;
 use records::Part;
 use records::Refusal;
 ghost use mathlib.Core.Path.{_≡_};
-ghost use Prim.Native.Nat.{_/_, _≤_};
-ghost use lib.ListN.{length, replicate};
+ghost use mathlib.Core.List.{_++_};
+ghost use Prim.Native.Nat.{_-_, _/_, _≤_};
+ghost use lib.ListN.{length, take, replicate};
 ghost use Rattle.parser.specs.States.{Widths};
 ghost use Rattle.ohdr_entry.specs.Code.{walkOut};
 ghost use Rattle.data_object_records.specs.Headers.{header as headerOf};
@@ -50,11 +52,12 @@ pub struct DataObject {
     pub data: Part,
 }
 
-// Every word zero.
-fn clear(table: &mut [u64])
-    ensures { λ _. ⌜ now (table .exit) ≡ replicate (length (now (table .entry))) 0 ⌝ }
+// Every word from a place on zero.
+fn clear(table: &mut [u64], from: usize)
+    requires { ⌜ from ≤ length (now table) ⌝ }
+    ensures { λ _. ⌜ now (table .exit) ≡ take from (now (table .entry)) ++ replicate (length (now (table .entry)) - from) 0 ⌝ }
 {
-    let mut i: usize = 0;
+    let mut i: usize = from;
     while i < table.len() {
         table[i] = 0;
         i += 1;
@@ -114,12 +117,14 @@ fn build_data_object_from_messages(
     ensures { λ r. ⌜ Built (now (file .entry)) (now (table .entry)) progress state r ⌝ }
 {
     let rows = progress.rows;
-    let dt = winning_data_type(file, table, rows);
-    let ds = winning_data_space(file, table, rows, state);
-    let li = winning_link_info(file, table, rows, state);
-    let ai = winning_attribute_info(file, table, rows, state);
-    let gi = winning_group_info(file, table, rows);
-    let data = winning_data(file, table, rows, state);
+    let mut last = [0usize; 22];
+    last_rows(table, rows, &mut last);
+    let dt = winning_data_type(file, table, last[3]);
+    let ds = winning_data_space(file, table, last[1], state);
+    let li = winning_link_info(file, table, last[2], state);
+    let ai = winning_attribute_info(file, table, last[21], state);
+    let gi = winning_group_info(file, table, last[10]);
+    let data = winning_data(file, table, last[8], state);
     DataObject {
         answer: Answer::Read(progress.at, progress.entries),
         rows,
@@ -133,7 +138,7 @@ fn build_data_object_from_messages(
 }
 
 // An object header at a position. Its messages go into the table, one a row, then zeros; a header
-// that is refused leaves the table all zero.
+// that is refused leaves the table all zero. Words that a row fills are not cleared before.
 pub fn data_object(
     file: &[u8],
     position: u64,
@@ -144,22 +149,26 @@ pub fn data_object(
 ) -> DataObject
     ensures { λ r. ⌜ Decoded (now (file .entry)) «offset_width» «length_width» «end_of_file» position (length (now (table .entry))) r (now (table .exit)) ⌝ }
 {
-    clear(table);
     let state = match State::new(offset_width, length_width, end_of_file) {
         NewState::Made(s) => s,
         NewState::Refused(r) => {
+            clear(table, 0);
             return rejected(r);
         }
     };
     if 2147483648 < file.len() {
+        clear(table, 0);
         return rejected(Refusal::FileSize);
     }
     match header_messages(file, table, position as usize, state) {
         Walk::Refused(r) => {
-            clear(table);
+            clear(table, 0);
             rejected(r)
         }
-        Walk::Done(progress) => build_data_object_from_messages(file, table, progress, state),
+        Walk::Done(progress) => {
+            clear(table, progress.rows * 10);
+            build_data_object_from_messages(file, table, progress, state)
+        }
     }
 }
 

@@ -1,24 +1,29 @@
 -- The laws that the proofs of this crate's functions cite. Assumes nothing.
-use Prim.Native.Nat.{ℕ, suc, _+_, _*_, _^_, _%_, _≤_, _<_}
+use Prim.Native.Nat.{ℕ, zero, suc, _+_, _-_, _*_, _^_, _%_, _≤_, _<_}
 use mathlib.Core.Path.{_≡_, refl}
 use mathlib.Core.List.{List}
 use native.Mathlib.Omega.{arith}
-use lib.ListN.{getD}
+use lib.ListN.{getD, set}
 use lib.Bits.{bitAnd, and-mask, and-le-r}
-use lib.Dec.{eqb}
+use lib.Dec.{ltb}
 use lib.Pow.{pow-mono}
 use Rattle.format.specs.Format.{pick}
-use Rattle.data_object_records.specs.Winners.{lastIn}
+use Rattle.data_object_records.specs.Winners.{lastRows, bodyOf}
 use Rattle.data_object_records.specs.declared.LastBody.the-variants as bodies
 
 -- the rows of a table: none, and one more
-pub last-none : (t : List ℕ) (type : ℕ) → lastIn t type 0 ≡ bodies.Nothing
-unfolding lastIn
-last-none t type = refl
+pub last-none : (l t : List ℕ) → lastRows l t 0 ≡ l
+unfolding lastRows
+last-none l t = refl
 
-pub last-more : (t : List ℕ) (type n : ℕ) → lastIn t type (n + 1) ≡ pick (eqb (getD t (n * 10) 0) type) (bodies.At (getD t (n * 10 + 3) 0)) (lastIn t type n)
-unfolding lastIn
-last-more t type n = let e : n + 1 ≡ suc n = omega arith in rw e
+pub last-more : (l t : List ℕ) (n : ℕ) → lastRows l t (n + 1) ≡ pick (ltb (getD t (n * 10) 0) 22) (set (lastRows l t n) (getD t (n * 10) 0) (n + 1)) (lastRows l t n)
+unfolding lastRows
+last-more l t n = let e : n + 1 ≡ suc n = omega arith in rw e
+
+-- a row of a number above 0
+pub body-some : (t : List ℕ) (row : ℕ) → (row ≡ 0 → ⊥) → bodyOf t row ≡ bodies.At (getD t ((row - 1) * 10 + 3) 0)
+body-some t zero h = absurd (h refl)
+body-some t (suc n) h = let e : suc n - 1 ≡ n = omega arith in rw e
 
 -- what a mask leaves is below what the mask is below
 pub mask-below : (n m k : ℕ) → m < k → bitAnd n m < k

@@ -1,6 +1,6 @@
 -- Decoding accepts exactly the headers that have a reading within the limits, and gives that reading; no header has two. Assumes nothing.
 use Prim.Native.Nat.{ℕ, _+_, _-_, _*_, _/_, _≤_}
-use mathlib.Core.Path.{_≡_, refl, sym, ap, _∙_, subst₂}
+use mathlib.Core.Path.{_≡_, refl, sym, ap, _∙_, subst, subst₂}
 use mathlib.Core.Bool.{Bool, true, false, _&&_}
 use mathlib.Core.List.{List, [], _∷_, _++_}
 use native.Mathlib.Omega.{arith}
@@ -33,7 +33,15 @@ pub record Within (file : List ℕ) (s : State) (at n next : ℕ) (xs : List Ite
 abbrev pub tableOf : ℕ → List Item → List ℕ
 tableOf n xs = encode (messagesOf xs) ++ replicate (n - messages xs * 10) 0
 
--- what was read, and its reading
+-- what was read into a table, and its reading; behind its rows the table is as it was
+pub record Walks (file : List ℕ) (s : State) (at : ℕ) (t : List ℕ) (next : ℕ) (w : Walked) : Type 0 where
+  pub items : List Item
+  pub within : Within file s at (length t) next items
+  pub entries : w .entries ≡ length items
+  pub rows : w .rows ≡ messages items
+  pub table : w .table ≡ encode (messagesOf items) ++ drop (messages items * 10) t
+
+-- what was read into a table of zeros
 pub record Accepted (file : List ℕ) (s : State) (at n next : ℕ) (w : Walked) : Type 0 where
   pub items : List Item
   pub within : Within file s at n next items
@@ -48,21 +56,31 @@ module _ (file : List ℕ) (s : State) where
   one-complete : (flags p q : ℕ) (x : Held) → Stands file (entry s flags) p q x → read file (entry s flags) p ≡ found x q
   one-complete flags p q x h = formats.complete file (entry s flags) p q x h
 
-  pub header-sound : (at n next : ℕ) (w : Walked) → header file s at (replicate n 0) ≡ found w next → Accepted file s at n next w
+  pub header-walks : (at : ℕ) (t : List ℕ) (next : ℕ) (w : Walked) → header file s at t ≡ found w next → Walks file s at t next w
   unfolding header
-  header-sound at n next w f =
+  header-walks at t next w f =
       let v = first (read file headerFields at) _ f in
       let flags = v .value .flags in
       let r = sound file (prefixSize flags) (StandsEntry file s flags) (λ p. read file (entry s flags) p) (one-sound flags) (one-complete flags)
-      (v .next) (v .next + v .value .size) (replicate n 0) next w (v .then) in
-      let room : messages (r .items) * 10 ≤ n = omega (arith, r .room, length-replicate {A = ℕ} n 0) in
+      (v .next) (v .next + v .value .size) t next w (v .then) in
       record {
         items = r .items;
         within = record {
           reading = record { fields = v .value; start = v .next; head = formats.sound file headerFields at (v .next) (v .value) (v .first); rest = r .reading };
           few = r .few;
-          room = omega arith;
+          room = omega (arith, r .room);
         };
+        entries = r .entries;
+        rows = r .rows;
+        table = r .table;
+      }
+
+  pub header-sound : (at n next : ℕ) (w : Walked) → header file s at (replicate n 0) ≡ found w next → Accepted file s at n next w
+  header-sound at n next w f =
+      let r = header-walks at (replicate n 0) next w f in
+      record {
+        items = r .items;
+        within = subst (λ (k : ℕ). Within file s at k next (r .items)) (length-replicate {A = ℕ} n 0) (r .within);
         entries = r .entries;
         rows = r .rows;
         table = r .table ∙ ap (λ (x : List ℕ). encode (messagesOf (r .items)) ++ x) (drop-replicate (messages (r .items) * 10) n 0);

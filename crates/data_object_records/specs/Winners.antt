@@ -1,8 +1,8 @@
 -- Where the last message of a type has its body, and the record that is read there. Assumes nothing: these are definitions.
 use Prim.Native.Nat.{ℕ, zero, suc, _+_, _*_}
 use mathlib.Core.List.{List, [], _∷_}
-use lib.ListN.{getD}
-use lib.Dec.{eqb}
+use lib.ListN.{getD, set}
+use lib.Dec.{eqb, ltb}
 use Rattle.format.specs.Format.{Format, pick, Out, found, refused, read}
 use Rattle.data_object_records.specs.declared.LastBody.{LastBody}
 use Rattle.data_object_records.specs.declared.LastBody.the-variants as bodies
@@ -11,6 +11,16 @@ use Rattle.data_object_records.specs.declared.LastBody.the-variants as b
 unfoldable pub lastIn : List ℕ → ℕ → ℕ → LastBody
 lastIn t type zero = bodies.Nothing
 lastIn t type (suc n) = pick (eqb (getD t (n * 10) 0) type) (bodies.At (getD t (n * 10 + 3) 0)) (lastIn t type n)
+
+-- for each type below 22 the last row with it among the first n, counted from 1; before any row it is as l says
+unfoldable pub lastRows : List ℕ → List ℕ → ℕ → List ℕ
+lastRows l t zero = l
+lastRows l t (suc n) = pick (ltb (getD t (n * 10) 0) 22) (set (lastRows l t n) (getD t (n * 10) 0) (suc n)) (lastRows l t n)
+
+-- where the row with this number, counted from 1, has its body; 0 is no row
+abbrev pub bodyOf : List ℕ → ℕ → LastBody
+bodyOf t zero = bodies.Nothing
+bodyOf t (suc n) = bodies.At (getD t (n * 10 + 3) 0)
 
 abbrev pub valueOr : {A : Type 0} → A → Out A → A
 valueOr a (found x q) = x

@@ -41,7 +41,7 @@ ghost use Rattle.ohdr_storage.specs.Storage.{dataLayout, emptyPart};
 ghost use Rattle.ohdr_datatype.specs.DataTypes.{dataType};
 ghost use Rattle.ohdr_dataspace.specs.DataSpaces.{dataSpace};
 ghost use Rattle.data_object_records.specs.Headers.{ohdr, headerFields};
-ghost use Rattle.data_object_records.specs.Winners.{lastIn, winner};
+ghost use Rattle.data_object_records.specs.Winners.{lastRows, bodyOf, winner};
 ghost use Rattle.data_object_records.specs.Answers.{fieldsOut};
 
 // The flags and the chunk size of a header.
@@ -122,29 +122,40 @@ pub fn header_fields(file: &[u8], at: usize) -> FieldsRead
     FieldsRead::Read(HeaderFields { flags, size }, start)
 }
 
-// Where the last of the first `rows` rows with a type has its body.
-fn last_body(table: &[u64], rows: usize, kind: u64) -> LastBody
-    requires { ⌜ rows ≤ length (now table) / 10 ⌝ }
-    ensures { λ r. ⌜ r ≡ lastIn (now (table .entry)) kind rows ⌝ }
+// For each type below 22 the last of the first `rows` rows with it, counted from 1. One pass over
+// the rows serves all the records that win.
+pub fn last_rows(table: &[u64], rows: usize, last: &mut [usize])
+    requires { ⌜ (rows ≤ length (now table) / 10) × (22 ≤ length (now last)) ⌝ }
+    ensures { λ _. ⌜ now (last .exit) ≡ lastRows (now (last .entry)) (now (table .entry)) rows ⌝ }
 {
-    let mut last = LastBody::Nothing;
     let mut row: usize = 0;
     while row < rows {
-        let first = row * 10;
-        if table[first] == kind {
-            last = LastBody::At(table[first + 3] as usize);
+        let kind = table[row * 10] as usize;
+        row += 1;
+        if kind < 22 {
+            last[kind] = row;
         }
-        row = row + 1;
     }
-    last
 }
 
-// The dataspace that wins: the one in the last body of its type, or the default.
-pub fn winning_data_space(file: &[u8], table: &[u64], rows: usize, state: State) -> DataSpace
-    requires { ⌜ Widths state × (rows ≤ length (now table) / 10) ⌝ }
-    ensures { λ r. ⌜ r ≡ winner (now (file .entry)) (dataSpace state) defaultDataSpace (lastIn (now (table .entry)) 1 rows) ⌝ }
+// Where the row with this number, counted from 1, has its body.
+fn last_body(table: &[u64], row: usize) -> LastBody
+    requires { ⌜ row ≤ length (now table) / 10 ⌝ }
+    ensures { λ r. ⌜ r ≡ bodyOf (now (table .entry)) row ⌝ }
 {
-    let LastBody::At(body) = last_body(table, rows, 1) else {
+    if row == 0 {
+        return LastBody::Nothing;
+    }
+    let first = (row - 1) * 10;
+    LastBody::At(table[first + 3] as usize)
+}
+
+// The dataspace that wins: the one in the body of the last row of its type, or the default.
+pub fn winning_data_space(file: &[u8], table: &[u64], row: usize, state: State) -> DataSpace
+    requires { ⌜ Widths state × (row ≤ length (now table) / 10) ⌝ }
+    ensures { λ r. ⌜ r ≡ winner (now (file .entry)) (dataSpace state) defaultDataSpace (bodyOf (now (table .entry)) row) ⌝ }
+{
+    let LastBody::At(body) = last_body(table, row) else {
         return DataSpace::default();
     };
     let answer = message_data_space(file, body, state);
@@ -155,11 +166,11 @@ pub fn winning_data_space(file: &[u8], table: &[u64], rows: usize, state: State)
     answer.data_space
 }
 
-pub fn winning_data_type(file: &[u8], table: &[u64], rows: usize) -> DataType
-    requires { ⌜ rows ≤ length (now table) / 10 ⌝ }
-    ensures { λ r. ⌜ r ≡ winner (now (file .entry)) (dataType 32) defaultDataType (lastIn (now (table .entry)) 3 rows) ⌝ }
+pub fn winning_data_type(file: &[u8], table: &[u64], row: usize) -> DataType
+    requires { ⌜ row ≤ length (now table) / 10 ⌝ }
+    ensures { λ r. ⌜ r ≡ winner (now (file .entry)) (dataType 32) defaultDataType (bodyOf (now (table .entry)) row) ⌝ }
 {
-    let LastBody::At(body) = last_body(table, rows, 3) else {
+    let LastBody::At(body) = last_body(table, row) else {
         return DataType::default();
     };
     let DataTypeRead::Read(dt, _) = message_data_type(file, body, 32) else {
@@ -168,11 +179,11 @@ pub fn winning_data_type(file: &[u8], table: &[u64], rows: usize) -> DataType
     dt
 }
 
-pub fn winning_link_info(file: &[u8], table: &[u64], rows: usize, state: State) -> LinkInfo
-    requires { ⌜ Widths state × (rows ≤ length (now table) / 10) ⌝ }
-    ensures { λ r. ⌜ r ≡ winner (now (file .entry)) (linkInfo state) defaultLinkInfo (lastIn (now (table .entry)) 2 rows) ⌝ }
+pub fn winning_link_info(file: &[u8], table: &[u64], row: usize, state: State) -> LinkInfo
+    requires { ⌜ Widths state × (row ≤ length (now table) / 10) ⌝ }
+    ensures { λ r. ⌜ r ≡ winner (now (file .entry)) (linkInfo state) defaultLinkInfo (bodyOf (now (table .entry)) row) ⌝ }
 {
-    let LastBody::At(body) = last_body(table, rows, 2) else {
+    let LastBody::At(body) = last_body(table, row) else {
         return LinkInfo::default();
     };
     let LinkInfoRead::Read(li, _) = message_link_info(file, body, state) else {
@@ -181,11 +192,11 @@ pub fn winning_link_info(file: &[u8], table: &[u64], rows: usize, state: State) 
     li
 }
 
-pub fn winning_group_info(file: &[u8], table: &[u64], rows: usize) -> GroupInfo
-    requires { ⌜ rows ≤ length (now table) / 10 ⌝ }
-    ensures { λ r. ⌜ r ≡ winner (now (file .entry)) groupInfo defaultGroupInfo (lastIn (now (table .entry)) 10 rows) ⌝ }
+pub fn winning_group_info(file: &[u8], table: &[u64], row: usize) -> GroupInfo
+    requires { ⌜ row ≤ length (now table) / 10 ⌝ }
+    ensures { λ r. ⌜ r ≡ winner (now (file .entry)) groupInfo defaultGroupInfo (bodyOf (now (table .entry)) row) ⌝ }
 {
-    let LastBody::At(body) = last_body(table, rows, 10) else {
+    let LastBody::At(body) = last_body(table, row) else {
         return GroupInfo::default();
     };
     let GroupInfoRead::Read(gi, _) = message_group_info(file, body) else {
@@ -194,16 +205,11 @@ pub fn winning_group_info(file: &[u8], table: &[u64], rows: usize) -> GroupInfo
     gi
 }
 
-pub fn winning_attribute_info(
-    file: &[u8],
-    table: &[u64],
-    rows: usize,
-    state: State,
-) -> AttributeInfo
-    requires { ⌜ Widths state × (rows ≤ length (now table) / 10) ⌝ }
-    ensures { λ r. ⌜ r ≡ winner (now (file .entry)) (attributeInfo state) defaultAttributeInfo (lastIn (now (table .entry)) 21 rows) ⌝ }
+pub fn winning_attribute_info(file: &[u8], table: &[u64], row: usize, state: State) -> AttributeInfo
+    requires { ⌜ Widths state × (row ≤ length (now table) / 10) ⌝ }
+    ensures { λ r. ⌜ r ≡ winner (now (file .entry)) (attributeInfo state) defaultAttributeInfo (bodyOf (now (table .entry)) row) ⌝ }
 {
-    let LastBody::At(body) = last_body(table, rows, 21) else {
+    let LastBody::At(body) = last_body(table, row) else {
         return AttributeInfo::default();
     };
     let AttributeInfoRead::Read(ai, _) = message_attribute_info(file, body, state) else {
@@ -213,11 +219,11 @@ pub fn winning_attribute_info(
 }
 
 // The data of the last layout, as a part of the file; none where there is none.
-pub fn winning_data(file: &[u8], table: &[u64], rows: usize, state: State) -> Part
-    requires { ⌜ Widths state × (rows ≤ length (now table) / 10) ⌝ }
-    ensures { λ r. ⌜ r ≡ winner (now (file .entry)) (dataLayout state) emptyPart (lastIn (now (table .entry)) 8 rows) ⌝ }
+pub fn winning_data(file: &[u8], table: &[u64], row: usize, state: State) -> Part
+    requires { ⌜ Widths state × (row ≤ length (now table) / 10) ⌝ }
+    ensures { λ r. ⌜ r ≡ winner (now (file .entry)) (dataLayout state) emptyPart (bodyOf (now (table .entry)) row) ⌝ }
 {
-    let LastBody::At(body) = last_body(table, rows, 8) else {
+    let LastBody::At(body) = last_body(table, row) else {
         return Part {
             position: 0,
             length: 0,
