@@ -1,0 +1,46 @@
+use borrow.Author.Needs.{needs}
+use Rattle.firmware.proofs.lookup_words.Statement.{statement}
+use Rattle.firmware.proofs.lookup_words.Tie as tie
+use Rattle.firmware.proofs.lookup_words.Reads as reads
+use Rattle.firmware.proofs.lookup_words.Lts as lts
+use Rattle.records.proofs.Refusal.number.Reads as number-reads
+
+-- src/lib.rt:407:26
+enum-known-answer : tie.Need-enum-known-answer
+enum-known-answer c = search needs
+
+-- src/lib.rt:412:34
+enum-told : tie.Need-enum-told
+enum-told c = search needs
+
+-- src/lib.rt:417:31
+enum-known-answer-2 : tie.Need-enum-known-answer-2
+enum-known-answer-2 c = search needs
+
+-- src/lib.rt:418:22
+number-requires : tie.Need-number-requires
+number-requires c κs = search needs
+
+-- src/lib.rt:403:1
+returns : tie.Need-returns
+returns c = rw (c .before .answer .given .1)
+
+-- src/lib.rt:403:1
+returns-2 : tie.Need-returns-2
+returns-2 c = rw (c .enum-told .given .1)
+
+-- src/lib.rt:403:1
+returns-3 : tie.Need-returns-3
+returns-3 c = rw (c .number .ensures, c .before .before .answer2 .given .1)
+
+pub lookup-words-spec : {M : Type 1} → statement M
+lookup-words-spec =
+    tie.close
+    (tie.spec
+    enum-known-answer
+    enum-told
+    enum-known-answer-2
+    number-requires
+    returns
+    returns-2
+    returns-3)
