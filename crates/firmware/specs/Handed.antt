@@ -13,7 +13,7 @@ use Rattle.lookup.specs.Named.{Looked}
 use Rattle.firmware.specs.declared.PartWords.{PartWords}
 use Rattle.firmware.specs.declared.DataObjectWords.{DataObjectWords}
 use Rattle.firmware.specs.declared.LookupWords.{LookupWords}
-use Rattle.firmware.specs.Words.{partOf, wordsOf, lookupOf}
+use Rattle.firmware.specs.Words.{noPart, partOf, wordsOf, lookupOf}
 
 -- the words of what decoding yields, which leaves t of a table of n words
 pub record Handed (file : List ℕ) (offsets lengths end at n : ℕ) (r : DataObjectWords) (t : List ℕ) : Type 0 where
@@ -26,10 +26,6 @@ pub record HandedRow (file table : List ℕ) (rows : ℕ) (name : List ℕ) (r :
   pub answer : LookupAnswer
   pub looked : Looked file table rows name answer
   pub words : r ≡ lookupOf answer
-
--- no bytes, at the file's start
-abbrev pub noPart : PartWords
-noPart = record { position = 0; length = 0 }
 
 -- the part itself where it lies in the file, and none where it leaves it; what is handed over lies in the file, and its bytes are the part's
 pub record HandedPart (file : List ℕ) (p : Part) (r : PartWords) : Type 0 where

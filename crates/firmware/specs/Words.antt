@@ -1,8 +1,8 @@
 -- The words that are handed to C for an object header, for a lookup and for a part: each case of each answer has its number and its values.
 -- Assumes nothing: these are definitions.
 use Prim.Native.Nat.{ℕ}
-use lib.ListN.{replicate}
 use Rattle.records.specs.Refusals.{refusalNumber}
+use Rattle.records.specs.Defaults.{defaultDataSpace, defaultLinkInfo, defaultGroupInfo, defaultAttributeInfo, defaultDataType}
 use Rattle.records.specs.declared.OptionU8.{OptionU8}
 use Rattle.records.specs.declared.OptionU8.the-variants as options8
 use Rattle.records.specs.declared.OptionU16.{OptionU16}
@@ -40,28 +40,25 @@ use Rattle.firmware.specs.declared.DataObjectWords.{DataObjectWords}
 use Rattle.firmware.specs.declared.LookupWords.{LookupWords}
 use Rattle.firmware.specs.declared.AnswerWords.{AnswerWords}
 
--- a field that a record lacks, and one that it has
-abbrev pub absent : OptionalWords
-absent = record { present = 0; value = 0 }
-
-abbrev pub present : ℕ → OptionalWords
-present v = record { present = 1; value = v }
+-- a field that a record has: 1 and its value; one that it lacks: 0 and 0
+abbrev pub optionalOf : ℕ → ℕ → OptionalWords
+optionalOf present value = record { present = present; value = value }
 
 abbrev pub optional8 : OptionU8 → OptionalWords
-optional8 options8.None = absent
-optional8 (options8.Some v) = present v
+optional8 options8.None = optionalOf 0 0
+optional8 (options8.Some v) = optionalOf 1 v
 
 abbrev pub optional16 : OptionU16 → OptionalWords
-optional16 options16.None = absent
-optional16 (options16.Some v) = present v
+optional16 options16.None = optionalOf 0 0
+optional16 (options16.Some v) = optionalOf 1 v
 
 abbrev pub optional32 : OptionU32 → OptionalWords
-optional32 options32.None = absent
-optional32 (options32.Some v) = present v
+optional32 options32.None = optionalOf 0 0
+optional32 (options32.Some v) = optionalOf 1 v
 
 abbrev pub optional64 : OptionU64 → OptionalWords
-optional64 options64.None = absent
-optional64 (options64.Some v) = present v
+optional64 options64.None = optionalOf 0 0
+optional64 (options64.Some v) = optionalOf 1 v
 
 abbrev pub dimensionsOf : Dimensions → DimensionsWords
 dimensionsOf d = record { count = d .count; sizes = d .sizes }
@@ -162,6 +159,10 @@ attributeInfoOf a =
 abbrev pub partOf : Part → PartWords
 partOf p = record { position = p .position; length = p .length }
 
+-- no bytes, at the file's start
+abbrev pub noPart : PartWords
+noPart = record { position = 0; length = 0 }
+
 -- 0, next position and count, or the refusal's number and zeros
 abbrev pub answerOf : Answer → AnswerWords
 answerOf (answers.Read next count) = record { refused = 0; next = next; entries = count }
@@ -182,8 +183,27 @@ wordsOf d =
       «data» = partOf (d .«data»);
     }
 
+-- a header that is refused: its number, and no other word
+abbrev pub refusedWords : ℕ → DataObjectWords
+refusedWords m =
+    record {
+      refused = m;
+      next = 0;
+      entries = 0;
+      rows = 0;
+      dataspace = dataSpaceOf defaultDataSpace;
+      datatype = dataTypeOf defaultDataType;
+      «link_info» = linkInfoOf defaultLinkInfo;
+      «group_info» = groupInfoOf defaultGroupInfo;
+      «attribute_info» = attributeInfoOf defaultAttributeInfo;
+      «data» = noPart;
+    }
+
 -- 0, 1 and the row; zeros where there is none; the refusal's number and zeros
+abbrev pub foundRow : ℕ → ℕ → ℕ → LookupWords
+foundRow refused found row = record { refused = refused; found = found; row = row }
+
 abbrev pub lookupOf : LookupAnswer → LookupWords
-lookupOf (lookups.At i) = record { refused = 0; found = 1; row = i }
-lookupOf lookups.Nothing = record { refused = 0; found = 0; row = 0 }
-lookupOf (lookups.Refused r) = record { refused = refusalNumber r; found = 0; row = 0 }
+lookupOf (lookups.At i) = foundRow 0 1 i
+lookupOf lookups.Nothing = foundRow 0 0 0
+lookupOf (lookups.Refused r) = foundRow (refusalNumber r) 0 0

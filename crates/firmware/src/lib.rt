@@ -22,7 +22,7 @@ use records::Part;
 ghost use mathlib.Core.Path.{_≡_};
 ghost use lib.ListN.{length, take};
 ghost use Rattle.lister.specs.Listing.{listingOf, Counts};
-ghost use Rattle.firmware.specs.Words.{optional8, optional16, optional32, optional64, dimensionsOf, dataSpaceOf, noFormat, formatOf, optionalFormat, dataTypeOf, linkInfoOf, groupInfoOf, attributeInfoOf, partOf, answerOf, wordsOf, lookupOf};
+ghost use Rattle.firmware.specs.Words.{optionalOf, optional8, optional16, optional32, optional64, dimensionsOf, dataSpaceOf, noFormat, formatOf, optionalFormat, dataTypeOf, linkInfoOf, groupInfoOf, attributeInfoOf, partOf, answerOf, wordsOf, foundRow, lookupOf};
 ghost use Rattle.firmware.specs.Handed.{Handed, HandedRow, HandedPart};
 
 // A field that may be absent: 1 and its value, or 0 and 0.
@@ -136,18 +136,18 @@ struct AnswerWords {
     entries: u64,
 }
 
+fn optional(present: u64, value: u64) -> OptionalWords
+    ensures { λ r. ⌜ r ≡ optionalOf present value ⌝ }
+{
+    OptionalWords { present, value }
+}
+
 fn optional_u8(field: OptionU8) -> OptionalWords
     ensures { λ r. ⌜ r ≡ optional8 field ⌝ }
 {
     match field {
-        OptionU8::None => OptionalWords {
-            present: 0,
-            value: 0,
-        },
-        OptionU8::Some(value) => OptionalWords {
-            present: 1,
-            value: value as u64,
-        },
+        OptionU8::None => optional(0, 0),
+        OptionU8::Some(value) => optional(1, value as u64),
     }
 }
 
@@ -155,14 +155,8 @@ fn optional_u16(field: OptionU16) -> OptionalWords
     ensures { λ r. ⌜ r ≡ optional16 field ⌝ }
 {
     match field {
-        OptionU16::None => OptionalWords {
-            present: 0,
-            value: 0,
-        },
-        OptionU16::Some(value) => OptionalWords {
-            present: 1,
-            value: value as u64,
-        },
+        OptionU16::None => optional(0, 0),
+        OptionU16::Some(value) => optional(1, value as u64),
     }
 }
 
@@ -170,14 +164,8 @@ fn optional_u32(field: OptionU32) -> OptionalWords
     ensures { λ r. ⌜ r ≡ optional32 field ⌝ }
 {
     match field {
-        OptionU32::None => OptionalWords {
-            present: 0,
-            value: 0,
-        },
-        OptionU32::Some(value) => OptionalWords {
-            present: 1,
-            value: value as u64,
-        },
+        OptionU32::None => optional(0, 0),
+        OptionU32::Some(value) => optional(1, value as u64),
     }
 }
 
@@ -185,14 +173,8 @@ fn optional_u64(field: OptionU64) -> OptionalWords
     ensures { λ r. ⌜ r ≡ optional64 field ⌝ }
 {
     match field {
-        OptionU64::None => OptionalWords {
-            present: 0,
-            value: 0,
-        },
-        OptionU64::Some(value) => OptionalWords {
-            present: 1,
-            value,
-        },
+        OptionU64::None => optional(0, 0),
+        OptionU64::Some(value) => optional(1, value),
     }
 }
 
@@ -367,11 +349,14 @@ fn answer_words(answer: Answer) -> AnswerWords
             next: next as u64,
             entries: entries as u64,
         },
-        Answer::Refused(refusal) => AnswerWords {
-            refused: refusal.number(),
-            next: 0,
-            entries: 0,
-        },
+        Answer::Refused(refusal) => {
+            let number = refusal.number();
+            AnswerWords {
+                refused: number,
+                next: 0,
+                entries: 0,
+            }
+        }
     }
 }
 
@@ -400,25 +385,26 @@ fn data_object_words(object: DataObject) -> DataObjectWords
     }
 }
 
+fn found_row(refused: u64, found: u64, row: u64) -> LookupWords
+    ensures { λ r. ⌜ r ≡ foundRow refused found row ⌝ }
+{
+    LookupWords {
+        refused,
+        found,
+        row,
+    }
+}
+
 fn lookup_words(answer: LookupAnswer) -> LookupWords
     ensures { λ r. ⌜ r ≡ lookupOf answer ⌝ }
 {
     match answer {
-        LookupAnswer::At(row) => LookupWords {
-            refused: 0,
-            found: 1,
-            row: row as u64,
-        },
-        LookupAnswer::Nothing => LookupWords {
-            refused: 0,
-            found: 0,
-            row: 0,
-        },
-        LookupAnswer::Refused(refusal) => LookupWords {
-            refused: refusal.number(),
-            found: 0,
-            row: 0,
-        },
+        LookupAnswer::At(row) => found_row(0, 1, row as u64),
+        LookupAnswer::Nothing => found_row(0, 0, 0),
+        LookupAnswer::Refused(refusal) => {
+            let number = refusal.number();
+            found_row(number, 0, 0)
+        }
     }
 }
 
@@ -434,7 +420,14 @@ pub extern "C" fn dowringaf_data_object(
 ) -> DataObjectWords
     ensures { λ r. ⌜ Handed (now (file .entry)) «offset_width» «length_width» «end_of_file» position (length (now (table .entry))) r (now (table .exit)) ⌝ }
 {
-    let object = data_object(file, position, offset_width, length_width, end_of_file, table);
+    let object = data_object(
+        file,
+        position,
+        offset_width,
+        length_width,
+        end_of_file,
+        table,
+    );
     data_object_words(object)
 }
 

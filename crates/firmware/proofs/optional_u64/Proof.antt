@@ -3,22 +3,33 @@ use Rattle.firmware.proofs.optional_u64.Statement.{statement}
 use Rattle.firmware.proofs.optional_u64.Tie as tie
 use Rattle.firmware.proofs.optional_u64.Reads as reads
 use Rattle.firmware.proofs.optional_u64.Lts as lts
+use Rattle.firmware.proofs.optional.Reads as optional-reads
 
--- src/lib.rt:188:28
+-- src/lib.rt:176:28
 enum-told : tie.Need-enum-told
 enum-told c = search needs
 
--- src/lib.rt:192:25
+-- src/lib.rt:176:28
+optional-requires : tie.Need-optional-requires
+optional-requires c κs = search needs
+
+-- src/lib.rt:177:25
 enum-known-field : tie.Need-enum-known-field
 enum-known-field c = search needs
 
--- src/lib.rt:184:1
-returns : tie.Need-returns
-returns c = rw (c .enum-told .given .1)
+-- src/lib.rt:177:35
+optional-requires-2 : tie.Need-optional-requires-2
+optional-requires-2 c κs = search needs
 
--- src/lib.rt:184:1
+-- src/lib.rt:172:1
+returns : tie.Need-returns
+returns c = rw (c .before .enum-told .given .1) (c .optional .ensures)
+
+-- src/lib.rt:172:1
 returns-2 : tie.Need-returns-2
-returns-2 c = rw (c .before .field .given .1)
+returns-2 c = rw (c .before .before .field .given .1) (c .optional2 .ensures)
 
 pub optional-u64-spec : {M : Type 1} → statement M
-optional-u64-spec = tie.close (tie.spec enum-told enum-known-field returns returns-2)
+optional-u64-spec =
+    tie.close
+    (tie.spec enum-told optional-requires enum-known-field optional-requires-2 returns returns-2)
