@@ -580,8 +580,29 @@ static void test_listing(void)
     listing_is(NULL, 0, "refused,3\n");
 }
 
-int main(void)
+/* Writes the full header to a file, for another program to read. */
+static int write_header(const char *path)
 {
+    struct writer w;
+    struct places p;
+    FILE *stream = fopen(path, "wb");
+    int written;
+
+    if (stream == NULL) {
+        return 0;
+    }
+    write_full(&w, &p);
+    written = fwrite(w.bytes, 1, w.count, stream) == w.count;
+    return fclose(stream) == 0 && written;
+}
+
+/* With a path, also writes the full header there. */
+int main(int count, char **words)
+{
+    if (count == 2 && !write_header(words[1])) {
+        fprintf(stderr, "%s: cannot be written\n", words[1]);
+        return 2;
+    }
     test_full();
     test_refused();
     test_messages();
