@@ -11,9 +11,12 @@
  * The proofs rest on what the caller guarantees. Nothing of it is tested:
  *
  *   - a pointer with a count points to that many initialised elements, aligned; with a count of 0
- *     it may be NULL;
+ *     it may be NULL; out points to DOWRINGAF_LISTING of them;
  *   - the table, or out, overlaps nothing else that the call is given;
- *   - nobody else writes to what is given, and nobody reads the table or out, during the call.
+ *   - nobody else writes to what is given, and nobody reads the table or out, during the call;
+ *   - the stack has room. The proofs say nothing of it: DOWRINGAF_DECODING_STACK and
+ *     DOWRINGAF_LISTING_STACK are bounds on what was measured at the deepest (firmware/stack.c);
+ *     the other two functions use less than the first.
  *
  * Every struct below is made of 64-bit words, without padding.
  */
@@ -26,6 +29,10 @@
 #ifdef __cplusplus
 extern "C" {
 #endif
+
+/* Bytes of stack that dowringaf_data_object and dowringaf_list stay below. */
+#define DOWRINGAF_DECODING_STACK 20480
+#define DOWRINGAF_LISTING_STACK 61440
 
 /* Why a header or a lookup is refused; 0 where it is not. */
 enum dowringaf_refusal {
@@ -171,7 +178,7 @@ typedef struct dowringaf_object {
 typedef struct dowringaf_found {
     uint64_t refused; /* 0, or DOWRINGAF_TABLE */
     uint64_t found;   /* 1 or 0 */
-    uint64_t row;     /* the row found */
+    uint64_t row;     /* the row found, the first row being 0 */
 } dowringaf_found;
 
 /*
@@ -208,7 +215,7 @@ dowringaf_part dowringaf_layout_data(const uint8_t *file, size_t file_bytes, siz
  * width of offsets and of lengths (a byte each), the end-of-file address and the header's position
  * (8 bytes each, lowest byte first), and then the file, at most 65,536 bytes in all. The listing
  * has a line for each row, at most 512 rows, and a last line, or `refused,` and a number. What the
- * bytes of out after it hold is not said. The call keeps a table of 40,960 bytes on the stack.
+ * bytes of out after it hold is not said.
  */
 size_t dowringaf_list(const uint8_t *input, size_t input_bytes, uint8_t out[DOWRINGAF_LISTING]);
 

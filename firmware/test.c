@@ -523,6 +523,44 @@ static void test_fixed(void)
     free(table);
 }
 
+/* A continuation counts as an entry, and has no row. */
+static void test_block(void)
+{
+    struct writer w;
+    uint8_t *file;
+    uint64_t *table = ones(20);
+    dowringaf_object o;
+    size_t i;
+
+    w.count = 0;
+    put_text(&w, "OHDR");
+    put(&w, 2, 1);
+    put(&w, 0, 1);
+    put(&w, 8, 1);
+    entry(&w, 16, 4, 0);
+    put(&w, 19, 2);
+    put(&w, 16, 2);
+    put(&w, 0, 4);
+    put_text(&w, "OCHK");
+    entry(&w, 0, 0, 0);
+    entry(&w, 255, 0, 0);
+    put(&w, 0, 4);
+    file = copy(w.bytes, w.count);
+    o = dowringaf_data_object(file, w.count, 0, 2, 2, w.count, table, 20);
+    IS(o.refused, 0);
+    IS(o.next, 19);
+    IS(o.entries, 3);
+    IS(o.rows, 2);
+    IS(table[DOWRINGAF_ROW_BODY], 27);
+    IS(table[DOWRINGAF_ROW_WORDS + DOWRINGAF_ROW_TYPE], 255);
+    IS(table[DOWRINGAF_ROW_WORDS + DOWRINGAF_ROW_BODY], 31);
+    for (i = DOWRINGAF_ROW_NAME; i < DOWRINGAF_ROW_WORDS; i++) {
+        IS(table[DOWRINGAF_ROW_WORDS + i], 0);
+    }
+    free(file);
+    free(table);
+}
+
 static void part_is(size_t position, size_t length, uint64_t got_position, uint64_t got_length)
 {
     uint8_t *file = copy((const uint8_t *)"abcdefghij", 10);
@@ -548,8 +586,10 @@ static void listing_is(const uint8_t *input, size_t n, const char *expected)
 {
     uint8_t *given = copy(input, n);
     uint8_t *out = block(DOWRINGAF_LISTING, 1);
-    size_t length = dowringaf_list(given, n, out);
+    size_t length;
 
+    memset(out, 1, DOWRINGAF_LISTING);
+    length = dowringaf_list(given, n, out);
     IS(length, strlen(expected));
     IS((uint64_t)(length == strlen(expected) && memcmp(out, expected, length) == 0), 1);
     free(given);
@@ -608,6 +648,7 @@ int main(int count, char **words)
     test_messages();
     test_headers();
     test_fixed();
+    test_block();
     test_parts();
     test_listing();
     printf("%lu compared, %lu failed\n", compared, failed);
