@@ -4,7 +4,7 @@
  * The functions are proved for every input, in crates/firmware. Of them all:
  *
  *   - they always return, and allocate nothing;
- *   - they keep no state between calls and call nothing of the system;
+ *   - they keep no state between calls, and call nothing but memset and memcpy;
  *   - they read nothing beyond the elements that they are given;
  *   - they write nothing but the table, or out.
  *

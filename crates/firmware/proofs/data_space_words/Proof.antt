@@ -1,32 +1,22 @@
 use borrow.Author.Needs.{needs}
 use Rattle.firmware.proofs.data_space_words.Statement.{statement}
 use Rattle.firmware.proofs.data_space_words.Tie as tie
-use Rattle.firmware.proofs.data_space_words.Reads as reads
-use Rattle.firmware.proofs.data_space_words.Lts as lts
-use Rattle.firmware.proofs.dimensions_words.Reads as dimensions-words-reads
-use Rattle.firmware.proofs.optional_u8.Reads as optional-u8-reads
 
--- src/lib.rt:213:9
 optional-u8-requires : tie.Need-optional-u8-requires
 optional-u8-requires c κs = search needs
 
--- src/lib.rt:214:9
 dimensions-words-requires : tie.Need-dimensions-words-requires
 dimensions-words-requires c κs = search needs
 
--- src/lib.rt:215:9
 dimensions-words-requires-2 : tie.Need-dimensions-words-requires-2
 dimensions-words-requires-2 c κs = search needs
 
--- src/lib.rt:217:25
 cast-t6 : tie.Need-cast-t6
 cast-t6 c = search needs
 
--- src/lib.rt:218:16
 cast-t7 : tie.Need-cast-t7
 cast-t7 c = search needs
 
--- src/lib.rt:209:1
 returns : tie.Need-returns
 returns c = rw (c .before .before .before .before .optional-u8 .ensures, c .before .before .before .dimensions-words .ensures, c .before .before .dimensions-words2 .ensures)
 

@@ -3,22 +3,16 @@ use native.Mathlib.Omega.{arith}
 use borrow.Author.Needs.{needs}
 use Rattle.firmware.proofs.dowringaf_layout_data.Statement.{statement}
 use Rattle.firmware.proofs.dowringaf_layout_data.Tie as tie
-use Rattle.firmware.proofs.dowringaf_layout_data.Reads as reads
-use Rattle.firmware.proofs.dowringaf_layout_data.Lts as lts
 
--- src/lib.rt:462:9
 returns : tie.Need-returns
 returns c = part-leaves (c .before .args .file .now) _ (omega arith)
 
--- src/lib.rt:467:8
 sub-if2 : tie.Need-sub-if2
 sub-if2 c = search needs
 
--- src/lib.rt:468:9
 returns-2 : tie.Need-returns-2
 returns-2 c = part-leaves (c .before .before .args .file .now) _ (omega arith)
 
--- src/lib.rt:457:1
 returns-3 : tie.Need-returns-3
 returns-3 c = part-lies (c .before .before .args .file .now) _ (omega arith)
 

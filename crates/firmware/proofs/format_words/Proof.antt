@@ -1,58 +1,43 @@
 use borrow.Author.Needs.{needs}
 use Rattle.firmware.proofs.format_words.Statement.{statement}
 use Rattle.firmware.proofs.format_words.Tie as tie
-use Rattle.firmware.proofs.format_words.Reads as reads
-use Rattle.firmware.proofs.format_words.Lts as lts
 
--- src/lib.rt:246:13
 enum-known-format : tie.Need-enum-known-format
 enum-known-format c = search needs
 
--- src/lib.rt:250:25
 cast-t12 : tie.Need-cast-t12
 cast-t12 c = search needs
 
--- src/lib.rt:251:28
 cast-t13 : tie.Need-cast-t13
 cast-t13 c = search needs
 
--- src/lib.rt:259:13
 enum-known-format-2 : tie.Need-enum-known-format-2
 enum-known-format-2 c = search needs
 
--- src/lib.rt:268:25
 cast-t14 : tie.Need-cast-t14
 cast-t14 c = search needs
 
--- src/lib.rt:269:28
 cast-t15 : tie.Need-cast-t15
 cast-t15 c = search needs
 
--- src/lib.rt:270:32
 cast-t16 : tie.Need-cast-t16
 cast-t16 c = search needs
 
--- src/lib.rt:271:28
 cast-t17 : tie.Need-cast-t17
 cast-t17 c = search needs
 
--- src/lib.rt:272:32
 cast-t18 : tie.Need-cast-t18
 cast-t18 c = search needs
 
--- src/lib.rt:273:28
 cast-t19 : tie.Need-cast-t19
 cast-t19 c = search needs
 
--- src/lib.rt:274:28
 cast-t20 : tie.Need-cast-t20
 cast-t20 c = search needs
 
--- src/lib.rt:241:1
 returns : tie.Need-returns
 returns c = rw (c .before .format .given .1)
 
--- src/lib.rt:241:1
 returns-2 : tie.Need-returns-2
 returns-2 c = rw (c .before .format2 .given .1)
 

@@ -1,48 +1,34 @@
 use borrow.Author.Needs.{needs}
 use Rattle.firmware.proofs.lookup_words.Statement.{statement}
 use Rattle.firmware.proofs.lookup_words.Tie as tie
-use Rattle.firmware.proofs.lookup_words.Reads as reads
-use Rattle.firmware.proofs.lookup_words.Lts as lts
-use Rattle.firmware.proofs.found_row.Reads as found-row-reads
-use Rattle.records.proofs.Refusal.number.Reads as number-reads
 
--- src/lib.rt:398:26
 enum-known-answer : tie.Need-enum-known-answer
 enum-known-answer c = search needs
 
--- src/lib.rt:398:34
 found-row-requires : tie.Need-found-row-requires
 found-row-requires c κs = search needs
 
--- src/lib.rt:399:34
 enum-told : tie.Need-enum-told
 enum-told c = search needs
 
--- src/lib.rt:399:34
 found-row-requires-2 : tie.Need-found-row-requires-2
 found-row-requires-2 c κs = search needs
 
--- src/lib.rt:400:31
 enum-known-answer-2 : tie.Need-enum-known-answer-2
 enum-known-answer-2 c = search needs
 
--- src/lib.rt:401:17
 number-requires : tie.Need-number-requires
 number-requires c κs = search needs
 
--- src/lib.rt:402:13
 found-row-requires-3 : tie.Need-found-row-requires-3
 found-row-requires-3 c κs = search needs
 
--- src/lib.rt:394:1
 returns : tie.Need-returns
 returns c = rw (c .before .before .answer .given .1) (c .found-row .ensures)
 
--- src/lib.rt:394:1
 returns-2 : tie.Need-returns-2
 returns-2 c = rw (c .before .enum-told .given .1) (c .found-row2 .ensures)
 
--- src/lib.rt:394:1
 returns-3 : tie.Need-returns-3
 returns-3 c = rw (c .before .before .before .answer2 .given .1, ← c .before .number .ensures) (c .found-row3 .ensures)
 

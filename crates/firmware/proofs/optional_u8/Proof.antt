@@ -1,35 +1,25 @@
 use borrow.Author.Needs.{needs}
 use Rattle.firmware.proofs.optional_u8.Statement.{statement}
 use Rattle.firmware.proofs.optional_u8.Tie as tie
-use Rattle.firmware.proofs.optional_u8.Reads as reads
-use Rattle.firmware.proofs.optional_u8.Lts as lts
-use Rattle.firmware.proofs.optional.Reads as optional-reads
 
--- src/lib.rt:149:27
 enum-told : tie.Need-enum-told
 enum-told c = search needs
 
--- src/lib.rt:149:27
 optional-requires : tie.Need-optional-requires
 optional-requires c κs = search needs
 
--- src/lib.rt:150:24
 enum-known-field : tie.Need-enum-known-field
 enum-known-field c = search needs
 
--- src/lib.rt:150:46
 cast-optional : tie.Need-cast-optional
 cast-optional c = search needs
 
--- src/lib.rt:150:34
 optional-requires-2 : tie.Need-optional-requires-2
 optional-requires-2 c κs = search needs
 
--- src/lib.rt:145:1
 returns : tie.Need-returns
 returns c = rw (c .before .enum-told .given .1) (c .optional .ensures)
 
--- src/lib.rt:145:1
 returns-2 : tie.Need-returns-2
 returns-2 c = rw (c .before .before .field .given .1) (c .optional2 .ensures)
 
