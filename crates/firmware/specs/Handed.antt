@@ -1,0 +1,34 @@
+-- What the exported functions yield. Assumes nothing: these are definitions.
+use Prim.Native.Nat.{ℕ, _+_, _≤_}
+use mathlib.Core.Path.{_≡_}
+use mathlib.Core.List.{List}
+use lib.ListN.{length, take, drop}
+use lib.Dec.{leb}
+use Rattle.format.specs.Format.{pick}
+use Rattle.records.specs.declared.Part.{Part}
+use Rattle.data_object.specs.declared.DataObject.{DataObject}
+use Rattle.data_object.specs.Decoded.{Decoded, bytesOf}
+use Rattle.lookup.specs.declared.LookupAnswer.{LookupAnswer}
+use Rattle.lookup.specs.Named.{Looked}
+use Rattle.firmware.specs.declared.PartWords.{PartWords}
+use Rattle.firmware.specs.declared.DataObjectWords.{DataObjectWords}
+use Rattle.firmware.specs.declared.LookupWords.{LookupWords}
+use Rattle.firmware.specs.Words.{noPart, partOf, wordsOf, lookupOf}
+
+-- the words of what decoding yields, which leaves t of a table of n words
+pub record Handed (file : List ℕ) (offsets lengths end at n : ℕ) (r : DataObjectWords) (t : List ℕ) : Type 0 where
+  pub object : DataObject
+  pub decoded : Decoded file offsets lengths end at n object t
+  pub words : r ≡ wordsOf object
+
+-- the words of what a lookup yields
+pub record HandedRow (file table : List ℕ) (rows : ℕ) (name : List ℕ) (r : LookupWords) : Type 0 where
+  pub answer : LookupAnswer
+  pub looked : Looked file table rows name answer
+  pub words : r ≡ lookupOf answer
+
+-- the part itself where it lies in the file, and none where it leaves it; what is handed over lies in the file, and its bytes are the part's
+pub record HandedPart (file : List ℕ) (p : Part) (r : PartWords) : Type 0 where
+  pub itself : r ≡ pick (leb (p .position + p .length) (length file)) (partOf p) noPart
+  pub inside : r .position + r .length ≤ length file
+  pub bytes : take (r .length) (drop (r .position) file) ≡ bytesOf file p

@@ -1,0 +1,226 @@
+/*
+ * Reading HDF5 object headers from C, through libfirmware.a (x86-64).
+ *
+ * The functions are proved for every input, in crates/firmware. Of them all:
+ *
+ *   - they always return, and allocate nothing;
+ *   - they keep no state between calls, and call nothing but memset and memcpy;
+ *   - they read nothing beyond the elements that they are given;
+ *   - they write nothing but the table, or out.
+ *
+ * The proofs rest on what the caller guarantees. Nothing of it is tested:
+ *
+ *   - a pointer with a count points to that many initialised elements, aligned; with a count of 0
+ *     it may be NULL; out points to DOWRINGAF_LISTING of them;
+ *   - the table, or out, overlaps nothing else that the call is given;
+ *   - nobody else writes to what is given, and nobody reads the table or out, during the call;
+ *   - the stack has room. The proofs say nothing of it: DOWRINGAF_DECODING_STACK and
+ *     DOWRINGAF_LISTING_STACK are bounds on what was measured at the deepest (firmware/stack.c);
+ *     the other two functions use less than the first.
+ *
+ * Every struct below is made of 64-bit words, without padding.
+ */
+#ifndef DOWRINGAF_H
+#define DOWRINGAF_H
+
+#include <stddef.h>
+#include <stdint.h>
+
+#ifdef __cplusplus
+extern "C" {
+#endif
+
+/* Bytes of stack that dowringaf_data_object and dowringaf_list stay below. */
+#define DOWRINGAF_DECODING_STACK 20480
+#define DOWRINGAF_LISTING_STACK 61440
+
+/* Why a header or a lookup is refused; 0 where it is not. */
+enum dowringaf_refusal {
+    DOWRINGAF_WIDTH = 1,                   /* a width that is not 2 to 8 */
+    DOWRINGAF_FILE_SIZE = 2,               /* a file above 2,147,483,648 bytes; for the listing, an input above 65,536 */
+    DOWRINGAF_SHORT = 3,                   /* a needed byte lies past the file */
+    DOWRINGAF_SIGNATURE = 4,               /* not OHDR */
+    DOWRINGAF_VERSION = 5,                 /* the header's version */
+    DOWRINGAF_HEADER_FLAGS = 6,            /* bit 4 of the header's flags */
+    DOWRINGAF_CHUNK_SIZE = 7,              /* a chunk above 16,777,216 bytes */
+    DOWRINGAF_ENTRY_FLAGS = 8,             /* an entry's flags */
+    DOWRINGAF_DATASPACE = 9,               /* a dataspace */
+    DOWRINGAF_LINK_INFO = 10,              /* a link info */
+    DOWRINGAF_DATATYPE = 11,               /* a datatype */
+    DOWRINGAF_FILL = 12,                   /* a fill value */
+    DOWRINGAF_LAYOUT = 13,                 /* a data layout */
+    DOWRINGAF_CHUNKED = 14,                /* a chunked data layout */
+    DOWRINGAF_GROUP_INFO = 15,             /* a group info */
+    DOWRINGAF_FILTER_PIPELINE = 16,        /* a filter pipeline */
+    DOWRINGAF_ATTRIBUTE = 17,              /* an attribute */
+    DOWRINGAF_ATTRIBUTE_INFO = 18,         /* an attribute info */
+    DOWRINGAF_CONTINUATION_RANGE = 19,     /* where a continuation block lies */
+    DOWRINGAF_CONTINUATION_SIGNATURE = 20, /* not OCHK */
+    DOWRINGAF_BLOCK_LEVEL = 21,            /* a 26th level of blocks */
+    DOWRINGAF_TYPE_LEVEL = 22,             /* a 33rd level of types */
+    DOWRINGAF_ENTRIES = 23,                /* a 4,097th entry */
+    DOWRINGAF_TABLE = 24                   /* a table with too few rows */
+};
+
+/*
+ * The words of a row of the table. Row i begins at word i * DOWRINGAF_ROW_WORDS. Positions count
+ * from the file's first byte. A name or a part that the row lacks is 0 in all its words.
+ */
+enum dowringaf_row {
+    DOWRINGAF_ROW_TYPE = 0,          /* the message's type */
+    DOWRINGAF_ROW_FLAGS = 1,         /* the entry's flags, those that are named */
+    DOWRINGAF_ROW_SIZE = 2,          /* the size that the entry gives */
+    DOWRINGAF_ROW_BODY = 3,          /* where its body begins */
+    DOWRINGAF_ROW_NAME = 4,          /* 1 with an attribute's name, 0 without */
+    DOWRINGAF_ROW_NAME_POSITION = 5,
+    DOWRINGAF_ROW_NAME_LENGTH = 6,
+    DOWRINGAF_ROW_PART = 7,          /* 1 with an attribute's value or a layout's data, 0 without */
+    DOWRINGAF_ROW_PART_POSITION = 8,
+    DOWRINGAF_ROW_PART_LENGTH = 9,
+    DOWRINGAF_ROW_WORDS = 10
+};
+
+/* A field that may be absent: present is 1, or it is 0 and so is the value. */
+typedef struct dowringaf_optional {
+    uint64_t present;
+    uint64_t value;
+} dowringaf_optional;
+
+/* The first count of the sizes, and then zeros. */
+typedef struct dowringaf_dimensions {
+    uint64_t count;
+    uint64_t sizes[4];
+} dowringaf_dimensions;
+
+typedef struct dowringaf_dataspace {
+    uint64_t dimensionality;
+    uint64_t flags;
+    dowringaf_optional kind;
+    dowringaf_dimensions size;
+    dowringaf_dimensions maximum_size;
+} dowringaf_dataspace;
+
+/* The kind of a format. */
+enum dowringaf_format_kind {
+    DOWRINGAF_FORMAT_NONE = 0,  /* every other word is 0 */
+    DOWRINGAF_FORMAT_FIXED = 1, /* bit offset and precision; the other words are 0 */
+    DOWRINGAF_FORMAT_FLOAT = 2
+};
+
+/* How the bits of a number stand in its bytes. */
+typedef struct dowringaf_format {
+    uint64_t kind;
+    uint64_t bit_offset;
+    uint64_t bit_precision;
+    uint64_t exponent_location;
+    uint64_t exponent_size;
+    uint64_t mantissa_location;
+    uint64_t mantissa_size;
+    uint64_t exponent_bias;
+} dowringaf_format;
+
+typedef struct dowringaf_datatype {
+    uint64_t class_and_version;
+    uint64_t class_bit_field;
+    uint64_t size;
+    dowringaf_optional list_size;
+    dowringaf_format format;
+} dowringaf_datatype;
+
+typedef struct dowringaf_link_info {
+    uint64_t flags;
+    dowringaf_optional maximum_creation_index;
+    uint64_t fractal_heap_address;
+    uint64_t address_btree_index;
+    dowringaf_optional address_btree_order;
+} dowringaf_link_info;
+
+typedef struct dowringaf_group_info {
+    uint64_t flags;
+    dowringaf_optional maximum_compact_value;
+    dowringaf_optional minimum_dense_value;
+    dowringaf_optional number_of_entries;
+    dowringaf_optional length_of_entries;
+} dowringaf_group_info;
+
+typedef struct dowringaf_attribute_info {
+    uint64_t flags;
+    uint64_t maximum_creation_index;
+    uint64_t fractal_heap_address;
+    uint64_t attribute_name_btree;
+    uint64_t attribute_creation_order_btree;
+} dowringaf_attribute_info;
+
+/* Bytes of the file, from a position on. */
+typedef struct dowringaf_part {
+    uint64_t position;
+    uint64_t length;
+} dowringaf_part;
+
+/*
+ * An object header. Where it is refused, every word but the first is 0. Of each record the header's
+ * last message wins; where there is none, the record's words are 0.
+ */
+typedef struct dowringaf_object {
+    uint64_t refused; /* 0, or an enum dowringaf_refusal */
+    uint64_t next;    /* the position after the header */
+    uint64_t entries; /* the entries read, continuations among them */
+    uint64_t rows;    /* the rows of the table that are filled, one for each message */
+    dowringaf_dataspace dataspace;
+    dowringaf_datatype datatype;
+    dowringaf_link_info link_info;
+    dowringaf_group_info group_info;
+    dowringaf_attribute_info attribute_info;
+    dowringaf_part data; /* where the data lie: for dowringaf_layout_data */
+} dowringaf_object;
+
+/* A lookup. Where it is refused or nothing is found, every word but the first is 0. */
+typedef struct dowringaf_found {
+    uint64_t refused; /* 0, or DOWRINGAF_TABLE */
+    uint64_t found;   /* 1 or 0 */
+    uint64_t row;     /* the row found, the first row being 0 */
+} dowringaf_found;
+
+/*
+ * Decodes the object header at a position of a file into a table of table_words words: a row of ten
+ * words for each message, in the header's order, then zeros. A header that is refused leaves the
+ * whole table zero. What stood in the table before makes no difference. Widths are in bytes.
+ */
+dowringaf_object dowringaf_data_object(const uint8_t *file, size_t file_bytes, uint64_t position,
+                                       uint64_t offset_width, uint64_t length_width,
+                                       uint64_t end_of_file, uint64_t *table, size_t table_words);
+
+/*
+ * Finds the first attribute among the first rows of a table whose name in the file is the wanted
+ * one. The table may be any: a row whose name leaves the file matches nothing. More rows than the
+ * table has are refused with DOWRINGAF_TABLE.
+ */
+dowringaf_found dowringaf_lookup(const uint8_t *file, size_t file_bytes, const uint64_t *table,
+                                 size_t table_words, size_t rows, const uint8_t *name,
+                                 size_t name_bytes);
+
+/*
+ * The part at a position where it lies in the file, 0 and 0 where it leaves it. In either case the
+ * answer lies in the file, so that its bytes are file + position, length of them. No byte of the
+ * file is read.
+ */
+dowringaf_part dowringaf_layout_data(const uint8_t *file, size_t file_bytes, size_t position,
+                                     size_t length);
+
+/* The bytes that dowringaf_list is lent. */
+#define DOWRINGAF_LISTING 98304
+
+/*
+ * Writes the listing of an input at the start of out, and yields its length. The input is the
+ * width of offsets and of lengths (a byte each), the end-of-file address and the header's position
+ * (8 bytes each, lowest byte first), and then the file, at most 65,536 bytes in all. The listing
+ * has a line for each row, at most 512 rows, and a last line, or `refused,` and a number. What the
+ * bytes of out after it hold is not said.
+ */
+size_t dowringaf_list(const uint8_t *input, size_t input_bytes, uint8_t out[DOWRINGAF_LISTING]);
+
+#ifdef __cplusplus
+}
+#endif
+
+#endif

@@ -1,0 +1,656 @@
+/*
+ * Calls every function of the library, and compares every word that it hands over. Nothing but this
+ * and the comparison of declarations in `build` ties dowringaf.h to the library.
+ *
+ * Every block that a call is given has exactly the bytes that the call is told of, so that a memory
+ * checker sees a read or a write beyond them.
+ */
+#include <stdio.h>
+#include <stdlib.h>
+#include <string.h>
+
+#include "dowringaf.h"
+
+/* Words of 64 bits, and nothing between them. */
+#define HAS_WORDS(type, n) typedef char type##_has_its_words[sizeof(type) == (n) * 8 ? 1 : -1]
+
+HAS_WORDS(dowringaf_optional, 2);
+HAS_WORDS(dowringaf_dimensions, 5);
+HAS_WORDS(dowringaf_dataspace, 14);
+HAS_WORDS(dowringaf_format, 8);
+HAS_WORDS(dowringaf_datatype, 13);
+HAS_WORDS(dowringaf_link_info, 7);
+HAS_WORDS(dowringaf_group_info, 9);
+HAS_WORDS(dowringaf_attribute_info, 5);
+HAS_WORDS(dowringaf_part, 2);
+HAS_WORDS(dowringaf_object, 54);
+HAS_WORDS(dowringaf_found, 3);
+
+static unsigned long compared = 0;
+static unsigned long failed = 0;
+
+static void compare(int line, const char *what, uint64_t got, uint64_t expected)
+{
+    compared++;
+    if (got != expected) {
+        failed++;
+        printf("test.c:%d: %s is %llu, not %llu\n", line, what, (unsigned long long)got,
+               (unsigned long long)expected);
+    }
+}
+
+#define IS(got, expected) compare(__LINE__, #got, (got), (expected))
+
+/* A block of n elements; for none, NULL. */
+static void *block(size_t n, size_t size)
+{
+    void *at;
+
+    if (n == 0) {
+        return NULL;
+    }
+    at = malloc(n * size);
+    if (at == NULL) {
+        fputs("no memory\n", stderr);
+        exit(2);
+    }
+    return at;
+}
+
+/* A copy of n bytes, in a block of its own. */
+static uint8_t *copy(const uint8_t *from, size_t n)
+{
+    uint8_t *at = block(n, 1);
+
+    if (n != 0) {
+        memcpy(at, from, n);
+    }
+    return at;
+}
+
+/* A table that holds ones, so that it shows whether a call wrote it. */
+static uint64_t *ones(size_t words)
+{
+    uint64_t *table = block(words, sizeof *table);
+    size_t i;
+
+    for (i = 0; i < words; i++) {
+        table[i] = UINT64_MAX;
+    }
+    return table;
+}
+
+/* A file that is written from its start on. */
+struct writer {
+    uint8_t bytes[1024];
+    size_t count;
+};
+
+static void put(struct writer *w, uint64_t number, int width)
+{
+    for (; width != 0; width--) {
+        w->bytes[w->count++] = (uint8_t)(number & 255);
+        number >>= 8;
+    }
+}
+
+static void put_text(struct writer *w, const char *text)
+{
+    for (; *text != '\0'; text++) {
+        w->bytes[w->count++] = (uint8_t)*text;
+    }
+}
+
+/* Type, size and flags of an entry. */
+static size_t entry(struct writer *w, int type, int size, int flags)
+{
+    put(w, (uint64_t)type, 1);
+    put(w, (uint64_t)size, 2);
+    put(w, (uint64_t)flags, 1);
+    return w->count;
+}
+
+enum { OFFSET = 8, LENGTH = 4, HEADER_FROM = 3, MESSAGES = 7 };
+
+/* Where the pieces of the full header lie. */
+struct places {
+    size_t body[MESSAGES];
+    size_t name;
+    size_t value;
+    size_t data;
+    size_t next;
+};
+
+static void write_infos(struct writer *w, struct places *p)
+{
+    p->body[2] = entry(w, 2, 34, 0);
+    put(w, 0, 1);
+    put(w, 67, 1);
+    put(w, 0x1112131415161718u, 8);
+    put(w, 0x2122232425262728u, OFFSET);
+    put(w, 0x3132333435363738u, OFFSET);
+    put(w, 0x4142434445464748u, OFFSET);
+    p->body[3] = entry(w, 10, 10, 0);
+    put(w, 0, 1);
+    put(w, 131, 1);
+    put(w, 0x5152, 2);
+    put(w, 0x5354, 2);
+    put(w, 0x5556, 2);
+    put(w, 0x5758, 2);
+    p->body[4] = entry(w, 21, 28, 0);
+    put(w, 0, 1);
+    put(w, 195, 1);
+    put(w, 0x6162, 2);
+    put(w, 0x7172737475767778u, OFFSET);
+    put(w, 0x8182838485868788u, OFFSET);
+    put(w, 0x9192939495969798u, OFFSET);
+}
+
+/* A variable-length type of doubles. */
+static void write_datatype(struct writer *w, struct places *p)
+{
+    p->body[1] = entry(w, 3, 28, 4);
+    put(w, 0x39, 1);
+    put(w, 0x0A0B0C, 3);
+    put(w, 16, 4);
+    put(w, 0x11, 1);
+    put(w, 0x3F20, 3);
+    put(w, 8, 4);
+    put(w, 0, 2);
+    put(w, 64, 2);
+    put(w, 52, 1);
+    put(w, 11, 1);
+    put(w, 0, 1);
+    put(w, 52, 1);
+    put(w, 1023, 4);
+}
+
+/* Name `Unit`, a text of five bytes, one element. */
+static void write_attribute(struct writer *w, struct places *p)
+{
+    p->body[5] = entry(w, 12, 31, 0);
+    put(w, 3, 1);
+    put(w, 0, 1);
+    put(w, 5, 2);
+    put(w, 8, 2);
+    put(w, 4, 2);
+    put(w, 0, 1);
+    p->name = w->count;
+    put_text(w, "Unit");
+    put(w, 0, 1);
+    put(w, 0x13, 1);
+    put(w, 0, 3);
+    put(w, 5, 4);
+    put(w, 2, 1);
+    put(w, 0, 3);
+    p->value = w->count;
+    put_text(w, "metre");
+}
+
+/* A header in which every field has a value of its own, as far as the format leaves it free. */
+static void write_full(struct writer *w, struct places *p)
+{
+    int i;
+
+    w->count = 0;
+    put_text(w, "xyz");
+    put_text(w, "OHDR");
+    put(w, 2, 1);
+    put(w, 1, 1);
+    put(w, 0, 2);
+    p->body[0] = entry(w, 1, 36, 1);
+    put(w, 2, 1);
+    put(w, 4, 1);
+    put(w, 33, 1);
+    put(w, 77, 1);
+    for (i = 0; i < 4; i++) {
+        put(w, (uint64_t)(101 + i), LENGTH);
+    }
+    for (i = 0; i < 4; i++) {
+        put(w, (uint64_t)(201 + i), LENGTH);
+    }
+    write_datatype(w, p);
+    write_infos(w, p);
+    write_attribute(w, p);
+    p->body[6] = entry(w, 8, 14, 0);
+    p->data = w->count + 14 + 4;
+    p->next = p->data;
+    put(w, 3, 1);
+    put(w, 1, 1);
+    put(w, p->data, OFFSET);
+    put(w, 9, LENGTH);
+    w->bytes[HEADER_FROM + 6] = (uint8_t)(w->count - HEADER_FROM - 8);
+    put(w, 0, 4);
+    put_text(w, "the bytes");
+}
+
+static void compare_spaces(const dowringaf_dataspace *s)
+{
+    IS(s->dimensionality, 4);
+    IS(s->flags, 33);
+    IS(s->kind.present, 1);
+    IS(s->kind.value, 77);
+    IS(s->size.count, 4);
+    IS(s->size.sizes[0], 101);
+    IS(s->size.sizes[1], 102);
+    IS(s->size.sizes[2], 103);
+    IS(s->size.sizes[3], 104);
+    IS(s->maximum_size.count, 4);
+    IS(s->maximum_size.sizes[0], 201);
+    IS(s->maximum_size.sizes[1], 202);
+    IS(s->maximum_size.sizes[2], 203);
+    IS(s->maximum_size.sizes[3], 204);
+}
+
+static void compare_types(const dowringaf_datatype *t)
+{
+    IS(t->class_and_version, 0x39);
+    IS(t->class_bit_field, 0x0A0B0C);
+    IS(t->size, 16);
+    IS(t->list_size.present, 1);
+    IS(t->list_size.value, 16);
+    IS(t->format.kind, DOWRINGAF_FORMAT_FLOAT);
+    IS(t->format.bit_offset, 0);
+    IS(t->format.bit_precision, 64);
+    IS(t->format.exponent_location, 52);
+    IS(t->format.exponent_size, 11);
+    IS(t->format.mantissa_location, 0);
+    IS(t->format.mantissa_size, 52);
+    IS(t->format.exponent_bias, 1023);
+}
+
+static void compare_infos(const dowringaf_object *o)
+{
+    IS(o->link_info.flags, 67);
+    IS(o->link_info.maximum_creation_index.present, 1);
+    IS(o->link_info.maximum_creation_index.value, 0x1112131415161718u);
+    IS(o->link_info.fractal_heap_address, 0x2122232425262728u);
+    IS(o->link_info.address_btree_index, 0x3132333435363738u);
+    IS(o->link_info.address_btree_order.present, 1);
+    IS(o->link_info.address_btree_order.value, 0x4142434445464748u);
+    IS(o->group_info.flags, 131);
+    IS(o->group_info.maximum_compact_value.present, 1);
+    IS(o->group_info.maximum_compact_value.value, 0x5152);
+    IS(o->group_info.minimum_dense_value.present, 1);
+    IS(o->group_info.minimum_dense_value.value, 0x5354);
+    IS(o->group_info.number_of_entries.present, 1);
+    IS(o->group_info.number_of_entries.value, 0x5556);
+    IS(o->group_info.length_of_entries.present, 1);
+    IS(o->group_info.length_of_entries.value, 0x5758);
+    IS(o->attribute_info.flags, 195);
+    IS(o->attribute_info.maximum_creation_index, 0x6162);
+    IS(o->attribute_info.fractal_heap_address, 0x7172737475767778u);
+    IS(o->attribute_info.attribute_name_btree, 0x8182838485868788u);
+    IS(o->attribute_info.attribute_creation_order_btree, 0x9192939495969798u);
+}
+
+/* The rows, the name and the parts among them, and zeros after them. */
+static void compare_rows(const uint64_t *table, size_t words, const struct places *p)
+{
+    static const uint64_t types[MESSAGES] = {1, 3, 2, 10, 21, 12, 8};
+    static const uint64_t flags[MESSAGES] = {1, 4, 0, 0, 0, 0, 0};
+    static const uint64_t sizes[MESSAGES] = {36, 28, 34, 10, 28, 31, 14};
+    size_t i;
+
+    for (i = 0; i < MESSAGES; i++) {
+        const uint64_t *row = table + i * DOWRINGAF_ROW_WORDS;
+        int is_attribute = types[i] == 12;
+        int has_part = is_attribute || types[i] == 8;
+
+        IS(row[DOWRINGAF_ROW_TYPE], types[i]);
+        IS(row[DOWRINGAF_ROW_FLAGS], flags[i]);
+        IS(row[DOWRINGAF_ROW_SIZE], sizes[i]);
+        IS(row[DOWRINGAF_ROW_BODY], p->body[i]);
+        IS(row[DOWRINGAF_ROW_NAME], is_attribute ? 1 : 0);
+        IS(row[DOWRINGAF_ROW_NAME_POSITION], is_attribute ? p->name : 0);
+        IS(row[DOWRINGAF_ROW_NAME_LENGTH], is_attribute ? 4 : 0);
+        IS(row[DOWRINGAF_ROW_PART], has_part ? 1 : 0);
+        IS(row[DOWRINGAF_ROW_PART_POSITION], is_attribute ? p->value : has_part ? p->data : 0);
+        IS(row[DOWRINGAF_ROW_PART_LENGTH], is_attribute ? 5 : has_part ? 9 : 0);
+    }
+    for (i = MESSAGES * DOWRINGAF_ROW_WORDS; i < words; i++) {
+        IS(table[i], 0);
+    }
+}
+
+static void look_up(const uint8_t *file, size_t bytes, const uint64_t *table, size_t words,
+                    size_t rows, const char *name, uint64_t refused, uint64_t found, uint64_t row)
+{
+    size_t n = strlen(name);
+    uint8_t *wanted = copy((const uint8_t *)name, n);
+    dowringaf_found answer = dowringaf_lookup(file, bytes, table, words, rows, wanted, n);
+
+    IS(answer.refused, refused);
+    IS(answer.found, found);
+    IS(answer.row, row);
+    free(wanted);
+}
+
+/* Every field of the full header, and lookups in its table. */
+static void test_full(void)
+{
+    struct writer w;
+    struct places p;
+    size_t words = MESSAGES * DOWRINGAF_ROW_WORDS + 13;
+    uint64_t *table = ones(words);
+    uint8_t *file;
+    dowringaf_object o;
+    dowringaf_part part;
+
+    write_full(&w, &p);
+    file = copy(w.bytes, w.count);
+    o = dowringaf_data_object(file, w.count, HEADER_FROM, OFFSET, LENGTH, w.count, table, words);
+    IS(o.refused, 0);
+    IS(o.next, p.next);
+    IS(o.entries, MESSAGES);
+    IS(o.rows, MESSAGES);
+    compare_spaces(&o.dataspace);
+    compare_types(&o.datatype);
+    compare_infos(&o);
+    IS(o.data.position, p.data);
+    IS(o.data.length, 9);
+    compare_rows(table, words, &p);
+    look_up(file, w.count, table, words, MESSAGES, "Unit", 0, 1, 5);
+    look_up(file, w.count, table, words, MESSAGES, "Units", 0, 0, 0);
+    look_up(file, w.count, table, words, MESSAGES, "", 0, 0, 0);
+    look_up(file, w.count, table, words, 5, "Unit", 0, 0, 0);
+    look_up(file, p.name + 3, table, words, MESSAGES, "Unit", 0, 0, 0);
+    look_up(file, w.count, table, words, words / 10 + 1, "Unit", DOWRINGAF_TABLE, 0, 0);
+    look_up(NULL, 0, NULL, 0, 0, "", 0, 0, 0);
+    part = dowringaf_layout_data(file, w.count, o.data.position, o.data.length);
+    IS(part.position, p.data);
+    IS(part.length, 9);
+    IS((uint64_t)memcmp(file + part.position, "the bytes", 9), 0);
+    free(file);
+    free(table);
+}
+
+static void compare_zeros(const dowringaf_object *o, const uint64_t *table, size_t words)
+{
+    uint64_t all[sizeof *o / sizeof(uint64_t)];
+    size_t i;
+
+    memcpy(all, o, sizeof all);
+    for (i = 1; i < sizeof all / sizeof all[0]; i++) {
+        IS(all[i], 0);
+    }
+    for (i = 0; i < words; i++) {
+        IS(table[i], 0);
+    }
+}
+
+static void refuse(const uint8_t *bytes, size_t n, uint64_t position, uint64_t offset_width,
+                   size_t words, uint64_t number)
+{
+    uint8_t *file = copy(bytes, n);
+    uint64_t *table = ones(words);
+    dowringaf_object o =
+        dowringaf_data_object(file, n, position, offset_width, LENGTH, 1024, table, words);
+
+    IS(o.refused, number);
+    compare_zeros(&o, table, words);
+    free(file);
+    free(table);
+}
+
+/* Refusals: every cut of the full header is short, and leaves nothing but zeros. */
+static void test_refused(void)
+{
+    struct writer w;
+    struct places p;
+    size_t n;
+
+    write_full(&w, &p);
+    for (n = 0; n < w.count; n++) {
+        refuse(w.bytes, n, HEADER_FROM, OFFSET, 75, DOWRINGAF_SHORT);
+    }
+    refuse(w.bytes, w.count, HEADER_FROM, 1, 75, DOWRINGAF_WIDTH);
+    refuse(w.bytes, w.count, HEADER_FROM, UINT64_MAX, 75, DOWRINGAF_WIDTH);
+    refuse(w.bytes, w.count, 0, OFFSET, 75, DOWRINGAF_SIGNATURE);
+    refuse(w.bytes, w.count, UINT64_MAX, OFFSET, 75, DOWRINGAF_SHORT);
+    refuse(w.bytes, w.count, HEADER_FROM, OFFSET, 69, DOWRINGAF_TABLE);
+    refuse(w.bytes, w.count, HEADER_FROM, OFFSET, 0, DOWRINGAF_TABLE);
+    refuse(NULL, 0, 0, OFFSET, 0, DOWRINGAF_SHORT);
+    w.bytes[p.body[1]] = 0x38;
+    refuse(w.bytes, w.count, HEADER_FROM, OFFSET, 75, DOWRINGAF_DATATYPE);
+}
+
+/* A header of one entry, the body of which begins as given and goes on with zeros. */
+static void refuse_entry(int type, int flags, const char *body, size_t n, uint64_t number)
+{
+    struct writer w;
+    size_t i;
+
+    w.count = 0;
+    put_text(&w, "OHDR");
+    put(&w, 2, 1);
+    put(&w, 0, 1);
+    put(&w, 64, 1);
+    entry(&w, type, 60, flags);
+    for (i = 0; i < 64; i++) {
+        put(&w, i < n ? (uint8_t)body[i] : 0, 1);
+    }
+    refuse(w.bytes, w.count, 0, OFFSET, 75, number);
+}
+
+/* The numbers of what a message is refused for. */
+static void test_messages(void)
+{
+    refuse_entry(0, 2, "", 0, DOWRINGAF_ENTRY_FLAGS);
+    refuse_entry(1, 0, "\3", 1, DOWRINGAF_DATASPACE);
+    refuse_entry(2, 0, "\1", 1, DOWRINGAF_LINK_INFO);
+    refuse_entry(3, 0, "\30", 1, DOWRINGAF_DATATYPE);
+    refuse_entry(5, 0, "\4", 1, DOWRINGAF_FILL);
+    refuse_entry(8, 0, "\2", 1, DOWRINGAF_LAYOUT);
+    refuse_entry(8, 0, "\3\2", 2, DOWRINGAF_CHUNKED);
+    refuse_entry(10, 0, "\1", 1, DOWRINGAF_GROUP_INFO);
+    refuse_entry(11, 0, "\3", 1, DOWRINGAF_FILTER_PIPELINE);
+    refuse_entry(12, 0, "\2", 1, DOWRINGAF_ATTRIBUTE);
+    refuse_entry(21, 0, "\1", 1, DOWRINGAF_ATTRIBUTE_INFO);
+    refuse_entry(16, 0, "", 0, DOWRINGAF_CONTINUATION_RANGE);
+    refuse_entry(16, 0, "\1\0\0\0\0\0\0\0\10", 9, DOWRINGAF_CONTINUATION_SIGNATURE);
+    refuse_entry(16, 0, "\27\0\0\0\0\0\0\0\30\0\0\0OCHK\20\14\0\0\27\0\0\0\0\0\0\0\30", 29,
+                 DOWRINGAF_BLOCK_LEVEL);
+}
+
+/* Headers that are refused in their first fields, for too many entries, and for too deep a type. */
+static void test_headers(void)
+{
+    static const uint8_t version[11] = {'O', 'H', 'D', 'R', 3};
+    static const uint8_t flags[11] = {'O', 'H', 'D', 'R', 2, 16};
+    static const uint8_t chunk[14] = {'O', 'H', 'D', 'R', 2, 2, 1, 0, 0, 1};
+    enum { HEAD = 8, TYPES = 33, ENTRIES = 4097 };
+    size_t n = HEAD + ENTRIES * 4 + 4;
+    uint8_t *file = block(n, 1);
+    size_t i;
+
+    refuse(version, sizeof version, 0, OFFSET, 75, DOWRINGAF_VERSION);
+    refuse(flags, sizeof flags, 0, OFFSET, 75, DOWRINGAF_HEADER_FLAGS);
+    refuse(chunk, sizeof chunk, 0, OFFSET, 75, DOWRINGAF_CHUNK_SIZE);
+    memset(file, 0, n);
+    memcpy(file, "OHDR\2\1", 6);
+    file[6] = (uint8_t)(ENTRIES * 4 % 256);
+    file[7] = (uint8_t)(ENTRIES * 4 / 256);
+    refuse(file, n, 0, OFFSET, ENTRIES * DOWRINGAF_ROW_WORDS, DOWRINGAF_ENTRIES);
+    file[HEAD] = 3;
+    for (i = 0; i < TYPES; i++) {
+        memcpy(file + HEAD + 4 + i * 8, "\31\0\0\0\1\0\0\0", 8);
+    }
+    refuse(file, n, 0, OFFSET, 75, DOWRINGAF_TYPE_LEVEL);
+    free(file);
+}
+
+/* A fixed-point type, and no other record. */
+static void test_fixed(void)
+{
+    struct writer w;
+    uint8_t *file;
+    uint64_t *table = ones(10);
+    dowringaf_object o;
+
+    w.count = 0;
+    put_text(&w, "OHDR");
+    put(&w, 2, 1);
+    put(&w, 0, 1);
+    put(&w, 16, 1);
+    entry(&w, 3, 12, 0);
+    put(&w, 0x10, 1);
+    put(&w, 8, 3);
+    put(&w, 4, 4);
+    put(&w, 5, 2);
+    put(&w, 27, 2);
+    put(&w, 0, 4);
+    file = copy(w.bytes, w.count);
+    o = dowringaf_data_object(file, w.count, 0, 2, 2, w.count, table, 10);
+    IS(o.refused, 0);
+    IS(o.next, w.count);
+    IS(o.rows, 1);
+    IS(o.datatype.class_and_version, 0x10);
+    IS(o.datatype.list_size.present, 0);
+    IS(o.datatype.list_size.value, 0);
+    IS(o.datatype.format.kind, DOWRINGAF_FORMAT_FIXED);
+    IS(o.datatype.format.bit_offset, 5);
+    IS(o.datatype.format.bit_precision, 27);
+    IS(o.datatype.format.exponent_location, 0);
+    IS(o.datatype.format.exponent_size, 0);
+    IS(o.datatype.format.mantissa_size, 0);
+    IS(o.datatype.format.exponent_bias, 0);
+    IS(o.dataspace.kind.present, 0);
+    IS(o.group_info.maximum_compact_value.present, 0);
+    IS(o.data.position, 0);
+    IS(o.data.length, 0);
+    free(file);
+    free(table);
+}
+
+/* A continuation counts as an entry, and has no row. */
+static void test_block(void)
+{
+    struct writer w;
+    uint8_t *file;
+    uint64_t *table = ones(20);
+    dowringaf_object o;
+    size_t i;
+
+    w.count = 0;
+    put_text(&w, "OHDR");
+    put(&w, 2, 1);
+    put(&w, 0, 1);
+    put(&w, 8, 1);
+    entry(&w, 16, 4, 0);
+    put(&w, 19, 2);
+    put(&w, 16, 2);
+    put(&w, 0, 4);
+    put_text(&w, "OCHK");
+    entry(&w, 0, 0, 0);
+    entry(&w, 255, 0, 0);
+    put(&w, 0, 4);
+    file = copy(w.bytes, w.count);
+    o = dowringaf_data_object(file, w.count, 0, 2, 2, w.count, table, 20);
+    IS(o.refused, 0);
+    IS(o.next, 19);
+    IS(o.entries, 3);
+    IS(o.rows, 2);
+    IS(table[DOWRINGAF_ROW_BODY], 27);
+    IS(table[DOWRINGAF_ROW_WORDS + DOWRINGAF_ROW_TYPE], 255);
+    IS(table[DOWRINGAF_ROW_WORDS + DOWRINGAF_ROW_BODY], 31);
+    for (i = DOWRINGAF_ROW_NAME; i < DOWRINGAF_ROW_WORDS; i++) {
+        IS(table[DOWRINGAF_ROW_WORDS + i], 0);
+    }
+    free(file);
+    free(table);
+}
+
+static void part_is(size_t position, size_t length, uint64_t got_position, uint64_t got_length)
+{
+    uint8_t *file = copy((const uint8_t *)"abcdefghij", 10);
+    dowringaf_part part = dowringaf_layout_data(file, 10, position, length);
+
+    IS(part.position, got_position);
+    IS(part.length, got_length);
+    free(file);
+}
+
+static void test_parts(void)
+{
+    part_is(0, 10, 0, 10);
+    part_is(3, 7, 3, 7);
+    part_is(3, 8, 0, 0);
+    part_is(10, 0, 10, 0);
+    part_is(11, 0, 0, 0);
+    part_is(SIZE_MAX, 2, 0, 0);
+    part_is(2, SIZE_MAX, 0, 0);
+}
+
+static void listing_is(const uint8_t *input, size_t n, const char *expected)
+{
+    uint8_t *given = copy(input, n);
+    uint8_t *out = block(DOWRINGAF_LISTING, 1);
+    size_t length;
+
+    memset(out, 1, DOWRINGAF_LISTING);
+    length = dowringaf_list(given, n, out);
+    IS(length, strlen(expected));
+    IS((uint64_t)(length == strlen(expected) && memcmp(out, expected, length) == 0), 1);
+    free(given);
+    free(out);
+}
+
+static void test_listing(void)
+{
+    struct writer w;
+
+    w.count = 0;
+    put(&w, 8, 1);
+    put(&w, 8, 1);
+    put(&w, 23, 8);
+    put(&w, 0, 8);
+    put_text(&w, "OHDR");
+    put(&w, 2, 1);
+    put(&w, 0, 1);
+    put(&w, 12, 1);
+    entry(&w, 0, 2, 0);
+    put(&w, 0xBBAA, 2);
+    entry(&w, 10, 2, 0);
+    put(&w, 0, 2);
+    put(&w, 0, 4);
+    listing_is(w.bytes, w.count, "0,0,0,2,11,-,-,-,-\n1,10,0,2,17,-,-,-,-\nend,23,2\n");
+    listing_is(w.bytes, w.count - 1, "refused,3\n");
+    listing_is(w.bytes, 17, "refused,3\n");
+    listing_is(NULL, 0, "refused,3\n");
+}
+
+/* Writes the full header to a file, for another program to read. */
+static int write_header(const char *path)
+{
+    struct writer w;
+    struct places p;
+    FILE *stream = fopen(path, "wb");
+    int written;
+
+    if (stream == NULL) {
+        return 0;
+    }
+    write_full(&w, &p);
+    written = fwrite(w.bytes, 1, w.count, stream) == w.count;
+    return fclose(stream) == 0 && written;
+}
+
+/* With a path, also writes the full header there. */
+int main(int count, char **words)
+{
+    if (count == 2 && !write_header(words[1])) {
+        fprintf(stderr, "%s: cannot be written\n", words[1]);
+        return 2;
+    }
+    test_full();
+    test_refused();
+    test_messages();
+    test_headers();
+    test_fixed();
+    test_block();
+    test_parts();
+    test_listing();
+    printf("%lu compared, %lu failed\n", compared, failed);
+    return failed == 0 ? 0 : 1;
+}
