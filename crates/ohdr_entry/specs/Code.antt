@@ -1,6 +1,7 @@
 -- What the code's answers mean, and the definition of a walk at the entries of a header. Assumes nothing: these are definitions.
-use Prim.Native.Nat.{ℕ}
+use Prim.Native.Nat.{ℕ, _≤_}
 use mathlib.Core.List.{List}
+use lib.ListN.{length}
 use Rattle.format.specs.Format.{Out, found, refused, read, Stands}
 use Rattle.records.specs.Refusals.{refusalNumber}
 use Rattle.grammar.specs.Message.{Held}
@@ -18,6 +19,11 @@ walkedOf p t = record { entries = p .entries; rows = p .rows; table = t }
 abbrev pub walkOut : Walk → List ℕ → Out Walked
 walkOut (walks.Done p) t = found (walkedOf p t) (p .at)
 walkOut (walks.Refused r) t = refused (refusalNumber r)
+
+-- a walk that is done ends in the file
+abbrev pub EndsInside : Walk → List ℕ → Type 0
+EndsInside (walks.Done p) file = p .at ≤ length file
+EndsInside (walks.Refused r) file = Unit {0}
 
 -- an entry by itself, read and standing
 abbrev pub oneOf : List ℕ → Header → ℕ → Out Held

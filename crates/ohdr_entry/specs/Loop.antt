@@ -10,7 +10,7 @@ use Rattle.records.specs.declared.Refusal.{Refusal}
 use Rattle.grammar.specs.Walk.{Walked}
 use Rattle.grammar.specs.Advance.{Advanced, advanced, runAt-goes, runAt-stops, runAt-ends}
 use Rattle.ohdr_message.specs.Entries.{prefixSize}
-use Rattle.ohdr_entry.specs.Code.{walkedOf, walkOut, oneOf, entryOf, runOf}
+use Rattle.ohdr_entry.specs.Code.{EndsInside, walkedOf, walkOut, oneOf, entryOf, runOf}
 use Rattle.ohdr_message.specs.Entered.{entry-inside}
 use Rattle.ohdr_entry.specs.declared.Header.{Header}
 use Rattle.ohdr_entry.specs.declared.Progress.{Progress}
@@ -20,6 +20,10 @@ use Rattle.ohdr_entry.specs.declared.Walk.the-variants.{Done, Refused}
 -- what a definition gives, from what a call ensures of its result and what the result is
 pub met : {A B : Type 0} {r r′ : A} {o : B} (f : A → B) → f r ≡ o → r ≡ r′ → o ≡ f r′
 met f h e = sym h ∙ ap f e
+
+-- a walk that is done
+pub inside-done : (file : List ℕ) {w : Walk} {p : Progress} → EndsInside w file → w ≡ Done p → p .at ≤ length file
+inside-done file h e = rw e at h
 
 -- o, the definition's run from where the loop began, is its run from here; t is the table here, and t₀ that at the beginning
 pub record Along (file : List ℕ) (h : Header) (levels end : ℕ) (o : Out Walked) (t₀ : List ℕ) (p : Progress) (t : List ℕ) : Type 0 where

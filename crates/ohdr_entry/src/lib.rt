@@ -21,7 +21,7 @@ ghost use Rattle.grammar.specs.Grammar.{ochk};
 ghost use Rattle.grammar.specs.Message.{partWords};
 ghost use Rattle.ohdr_message.specs.Entries.{prefixSize};
 ghost use Rattle.ohdr_message.specs.Answers.{rowWords};
-ghost use Rattle.ohdr_entry.specs.Code.{walkedOf, walkOut, entryOf, blockOf, walkOf};
+ghost use Rattle.ohdr_entry.specs.Code.{EndsInside, walkedOf, walkOut, entryOf, blockOf, runOf, walkOf};
 
 // What does not change while a header is walked: the state of the file, and the header's flags.
 pub struct Header {
@@ -169,22 +169,17 @@ fn message_continue(
     };
     let whole = block.offset as usize + block.length as usize;
     let end = whole - 4;
-    let prefix = message_prefix_size(header.flags);
-    let mut progress = Progress {
+    let first = Progress {
         at: start,
         rows: from.rows,
         entries: from.entries,
     };
-    while progress.at + prefix <= end {
-        match message_entry(file, table, header, progress, levels) {
-            Walk::Refused(r) => {
-                return Walk::Refused(r);
-            }
-            Walk::Done(p) => {
-                progress = p;
-            }
+    let progress = match message_run(file, table, header, first, end, levels) {
+        Walk::Done(p) => p,
+        Walk::Refused(r) => {
+            return Walk::Refused(r);
         }
-    }
+    };
     if whole <= progress.at {
         return Walk::Done(progress);
     }
@@ -196,6 +191,35 @@ fn message_continue(
         rows: progress.rows,
         entries: progress.entries,
     })
+}
+
+// Entries from a position on, while position plus prefix is at most the end: a header's own, or a
+// block's.
+fn message_run(
+    file: &[u8],
+    table: &mut [u64],
+    header: Header,
+    from: Progress,
+    end: usize,
+    levels: usize,
+) -> Walk
+    requires { ⌜ Widths (header .state) × (levels ≤ 25) × (from .entries ≤ 4096) × (from .at ≤ length (now file)) ⌝ }
+    ensures { λ r. ⌜ walkOut r (now (table .exit)) ≡ runOf (now (file .entry)) header levels end (from .at) (walkedOf from (now (table .entry))) ⌝ }
+    ensures { λ r. ⌜ EndsInside r (now (file .entry)) ⌝ }
+{
+    let prefix = message_prefix_size(header.flags);
+    let mut progress = from;
+    while progress.at + prefix <= end {
+        match message_entry(file, table, header, progress, levels) {
+            Walk::Refused(r) => {
+                return Walk::Refused(r);
+            }
+            Walk::Done(p) => {
+                progress = p;
+            }
+        }
+    }
+    Walk::Done(progress)
 }
 
 fn larger(a: usize, b: usize) -> usize
@@ -215,22 +239,17 @@ pub fn collect_all_messages(
     requires { ⌜ Widths (header .state) × (at ≤ length (now file)) × (end ≤ length (now file) + 16777216) × (length (now file) ≤ 2147483648) ⌝ }
     ensures { λ r. ⌜ walkOut r (now (table .exit)) ≡ walkOf (now (file .entry)) header end at (now (table .entry)) ⌝ }
 {
-    let prefix = message_prefix_size(header.flags);
-    let mut progress = Progress {
+    let first = Progress {
         at,
         rows: 0,
         entries: 0,
     };
-    while progress.at + prefix <= end {
-        match message_entry(file, table, header, progress, 25) {
-            Walk::Refused(r) => {
-                return Walk::Refused(r);
-            }
-            Walk::Done(p) => {
-                progress = p;
-            }
+    let progress = match message_run(file, table, header, first, end, 25) {
+        Walk::Done(p) => p,
+        Walk::Refused(r) => {
+            return Walk::Refused(r);
         }
-    }
+    };
     let next = larger(progress.at, end) + 4;
     if file.len() < next {
         return Walk::Refused(Refusal::Short);
