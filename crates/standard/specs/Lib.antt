@@ -1,2 +1,7 @@
 pub mod Fields
 pub mod Tie
+pub mod Versions
+pub mod Headers
+pub mod Dataspaces
+pub mod Infos
+pub mod Storage
