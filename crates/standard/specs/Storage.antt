@@ -30,37 +30,45 @@ pub data SizeAndFillValue : Type 0 where
 unfoldable pub sizeAndFillValue : Bool → Format SizeAndFillValue
 sizeAndFillValue test = pick test (number 4 (λ size. bind (raw size) (λ fill-value. done (size-and-fill-value size fill-value)))) (done not-present)
 
--- Layout: Fill Value Message - Versions 1 and 2
-pub record FillValue12 : Type 0 where
+-- the first fields of Layout: Fill Value Message - Versions 1 and 2
+pub record FillFields12 : Type 0 where
   pub version : ℕ
   pub space-allocation-time : ℕ
   pub fill-value-write-time : ℕ
   pub fill-value-defined : ℕ
-  pub size-and-value : SizeAndFillValue
 
--- size and value are not present where the version is above 1 and the value is not defined
-unfoldable pub fillValue12 : Format FillValue12
-fillValue12 =
+unfoldable pub fillFields12 : Format FillFields12
+fillFields12 =
     number 1 (λ version.
     only (eqb version 1 || eqb version 2) (
     number 1 (λ space-allocation-time.
     number 1 (λ fill-value-write-time.
     number 1 (λ fill-value-defined.
-    bind (sizeAndFillValue (not (ltb 1 version && eqb fill-value-defined 0))) (λ size-and-value.
-    done {A = FillValue12} (record {
+    done {A = FillFields12} (record {
       version = version;
       space-allocation-time = space-allocation-time;
       fill-value-write-time = fill-value-write-time;
       fill-value-defined = fill-value-defined;
-      size-and-value = size-and-value;
-    })))))))
+    }))))))
+
+-- Layout: Fill Value Message - Versions 1 and 2
+pub record FillValue12 : Type 0 where
+  pub fields : FillFields12
+  pub size-and-value : SizeAndFillValue
+
+-- size and value are not present where the version is above 1 and the value is not defined
+unfoldable pub fillValue12 : Format FillValue12
+fillValue12 =
+    bind fillFields12 (λ fields.
+    bind (sizeAndFillValue (not (ltb 1 (fields .version) && eqb (fields .fill-value-defined) 0))) (λ size-and-value.
+    done {A = FillValue12} (record { fields = fields; size-and-value = size-and-value })))
 
 -- the values that are allowed
 pub record ValidFillValue12 (x : FillValue12) : Type 0 where
-  pub allocation-least : 1 ≤ x .space-allocation-time
-  pub allocation-most : x .space-allocation-time ≤ 3
-  pub write-time : x .fill-value-write-time ≤ 2
-  pub defined : x .fill-value-defined ≤ 1
+  pub allocation-least : 1 ≤ x .fields .space-allocation-time
+  pub allocation-most : x .fields .space-allocation-time ≤ 3
+  pub write-time : x .fields .fill-value-write-time ≤ 2
+  pub defined : x .fields .fill-value-defined ≤ 1
 
 -- Layout: Fill Value Message - Version 3
 pub record FillValue3 : Type 0 where

@@ -1,6 +1,6 @@
 -- Wherever one format stands another stands over the same bytes, with a value that is related to its value: one law for each way in
 -- which formats are put together. Assumes nothing.
-use Prim.Native.Nat.{ℕ, zero, suc, _+_, _≤_}
+use Prim.Native.Nat.{ℕ, zero, suc, _+_, _*_, _≤_}
 use mathlib.Core.Path.{_≡_, refl, sym, ap, _∙_}
 use mathlib.Core.Logic.{_⊎_, inl, inr}
 use mathlib.Core.Bool.{Bool, true, false}
@@ -31,6 +31,16 @@ pub record Tied {A B : Type 0} (R : A → B → Type 0) (F : Format A) (G : Form
 -- the same, but where a listed difference applies
 pub record TiedBut {A B : Type 0} (D : List ℕ → ℕ → Type 0) (R : A → B → Type 0) (F : Format A) (G : Format B) : Type 0 where
   pub ties : (s : List ℕ) (p q : ℕ) (a : A) → Stands s F p q a → D s p ⊎ Stood R G s p q a
+
+-- numbers of one width stand wherever there is room for them
+pub many-stands : (s : List ℕ) (w n p q : ℕ) → q ≡ p + w * n → q ≤ length s → (xs : List ℕ) × Stands s (many n (number w done)) p q xs
+unfolding many
+many-stands s w zero p q e h = ([], (omega arith, refl))
+many-stands s w (suc n) p q e h =
+    let x = many-stands s w n (p + w) q (omega arith) h in
+    let v = le s p w in
+    (v ∷ x .0, bind-stands s (number w done) (λ a. bind (many n (number w done)) (λ more. done (a ∷ more))) p (p + w) q v (v ∷ x .0) (omega arith, (refl, refl))
+    (bind-stands s (many n (number w done)) (λ more. done (v ∷ more)) (p + w) q q (x .0) (v ∷ x .0) (x .1) (refl, refl)))
 
 -- what stands further on, and with it the whole
 pub onward : {A B : Type 0} {R : A → B → Type 0} {G H : Format B} {s : List ℕ} {p m q : ℕ} {a : A} → Stood R G s m q a → ((b : B) → Stands s G m q b → Stands s H p q b) → Stood R H s p q a
@@ -154,6 +164,29 @@ module _ {A B : Type 0} {R : A → B → Type 0} where
       go : (s : List ℕ) (p q : ℕ) (a : A) → D s p ⊎ Stood R G s p q a → E s p ⊎ Stood R G s p q a
       go s p q a (inl d) = inl (f s p d)
       go s p q a (inr x) = inr x
+
+  -- no difference is listed
+  pub tied-none : {F : Format A} {G : Format B} → TiedBut (λ s p. ⊥) R F G → Tied R F G
+  tied-none {G = G} t = record { ties = λ s p q a h. go s p q a (t .ties s p q a h) }
+    where
+      go : (s : List ℕ) (p q : ℕ) (a : A) → ⊥ ⊎ Stood R G s p q a → Stood R G s p q a
+      go s p q a (inl d) = absurd d
+      go s p q a (inr x) = x
+
+  -- bytes that ours passes over, and the other hands out
+  pub tied-raw : {n : ℕ} {F : Format A} {g : Bytes → Format B} → ((x : Bytes) → x .length ≡ n → Tied R F (g x)) → Tied R (skip n F) (bind (raw n) g)
+  unfolding raw bind
+  tied-raw {n = n} t = record { ties = λ s p q a h. onward (t (record { position = p; length = n }) refl .ties s (p + n) q a (h .1)) (λ b i. (h .0, i)) }
+
+  -- or numbers of one width
+  pub tied-skip-many : (w n : ℕ) {F : Format A} {g : List ℕ → Format B} → ((xs : List ℕ) → Tied R F (g xs)) → Tied R (skip (w * n) F) (bind (many n (number w done)) g)
+  tied-skip-many w n {g = g} t =
+      record {
+        ties =
+            λ s p q a h.
+            let x = many-stands s w n p (p + w * n) refl (h .0) in
+            onward (t (x .0) .ties s (p + w * n) q a (h .1)) (λ b i. bind-stands s (many n (number w done)) g p (p + w * n) q (x .0) b (x .1) i);
+      }
 
 -- a difference in the first of two formats, or in the second after the first
 pub data Either {B : Type 0} (D : List ℕ → ℕ → Type 0) (G : Format B) (E : B → List ℕ → ℕ → Type 0) (s : List ℕ) (p : ℕ) : Type 0 where

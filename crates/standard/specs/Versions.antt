@@ -39,11 +39,8 @@ module _ {A B : Type 0} {R : A → B → Type 0} where
             onward (t v .ties s p q a (h .0, rw (eq-eqb v v refl) (h .1))) (λ b i. version-stands s table p q b (h .0) i);
       }
 
+  pub stood-marked : {C : Type 0} (f : C → B) {G : Format C} {s : List ℕ} {p q : ℕ} {a : A} → Stood (λ a c. R a (f c)) G s p q a → Stood R (marked f G) s p q a
+  stood-marked f {G = G} {s = s} {p = p} {q = q} x = record { value = f (x .value); stands = marked-stands s f G p q (x .value) (x .stands); related = x .related }
+
   pub tied-marked : {C : Type 0} (f : C → B) {F : Format A} {G : Format C} → Tied (λ a c. R a (f c)) F G → Tied R F (marked f G)
-  tied-marked f {G = G} t =
-      record {
-        ties =
-            λ s p q a h.
-            let x = t .ties s p q a h in
-            record { value = f (x .value); stands = marked-stands s f G p q (x .value) (x .stands); related = x .related };
-      }
+  tied-marked f t = record { ties = λ s p q a h. stood-marked f (t .ties s p q a h) }

@@ -1,2 +1,4 @@
 pub mod Options
 pub mod Infos
+pub mod Layouts
+pub mod Fills
