@@ -213,30 +213,41 @@ but-bind {A} {B} {C} {E} {S} {R} {D} {D′} {F} {G} {f} {g} t k = record { ties 
     whole : (s : List ℕ) (p q : ℕ) (c : C) → Stands s (bind F f) p q c → Either D G D′ s p ⊎ Stood R (bind G g) s p q c
     whole s p q c h = let w = stands-bind s F f p q c h in first s p (w .0) q c (w .1) (w .3) (t .ties s p (w .0) (w .1) (w .2))
 
--- one format n times, and a list of the other's values
-pub but-times : {A B : Type 0} {S : A → B → Type 0} {D : List ℕ → ℕ → Type 0} {F : Format A} {G : Format B} (n : ℕ)
-    → TiedBut D S F G → TiedBut (λ s p. Among D G s n p) (λ _ _. Unit {0}) (times n F nothing) (many n G)
-unfolding times many
-but-times zero t = record { ties = λ s p q a h. inr (record { value = []; stands = (h .0, refl); related = tt }) }
-but-times {A} {B} {S} {D} {F} {G} (suc n) t = more (but-times n t)
-  where
-    more : TiedBut (λ s p. Among D G s n p) (λ _ _. Unit {0}) (times n F nothing) (many n G) → TiedBut (λ s p. Among D G s (suc n) p) (λ _ _. Unit {0}) (times (suc n) F nothing) (many (suc n) G)
-    more u = record { ties = whole }
-      where
-        second : (s : List ℕ) (p m q : ℕ) (b : B) → Stands s G p m b → Among D G s n m ⊎ Stood {A = Unit {0}} (λ _ _. Unit {0}) (many n G) s m q tt
-            → Among D G s (suc n) p ⊎ Stood {A = Unit {0}} (λ _ _. Unit {0}) (many (suc n) G) s p q tt
-        second s p m q b h (inl d) = inl (in-later b h d)
-        second s p m q b h (inr y) =
-            inr (record {
-              value = b ∷ y .value;
-              stands = bind-stands s G (λ a. bind (many n G) (λ more. done (a ∷ more))) p m q b (b ∷ y .value) h (bind-stands s (many n G) (λ more. done (b ∷ more)) m q q (y .value) (b ∷ y .value) (y .stands) (refl, refl));
-              related = tt;
-            })
+-- what holds of each of a list
+abbrev pub Every : {B : Type 0} → (B → Type 0) → List B → Type 0
+Every P [] = Unit {0}
+Every P (b ∷ bs) = P b × Every P bs
 
-        first : (s : List ℕ) (p m q : ℕ) (a : A) → Stands s (times n F nothing) m q tt → D s p ⊎ Stood S G s p m a
-            → Among D G s (suc n) p ⊎ Stood {A = Unit {0}} (λ _ _. Unit {0}) (many (suc n) G) s p q tt
-        first s p m q a h (inl d) = inl (in-next d)
-        first s p m q a h (inr x) = second s p m q (x .value) (x .stands) (u .ties s m q tt h)
+-- one format n times, and a list of the other's values, of each of which P holds
+module _ {A B : Type 0} (P : B → Type 0) (D : List ℕ → ℕ → Type 0) (F : Format A) (G : Format B) where
+  abbrev Times : ℕ → Type 0
+  Times n = TiedBut (λ s p. Among D G s n p) (λ _ bs. Every P bs) (times n F nothing) (many n G)
 
-        whole : (s : List ℕ) (p q : ℕ) (c : Unit {0}) → Stands s (times (suc n) F nothing) p q c → Among D G s (suc n) p ⊎ Stood {A = Unit {0}} (λ _ _. Unit {0}) (many (suc n) G) s p q c
-        whole s p q c h = let w = stands-bind s F (λ _. times n F nothing) p q c h in first s p (w .0) q (w .1) (w .3) (t .ties s p (w .0) (w .1) (w .2))
+  -- what stands of n from p to q
+  abbrev Rest : List ℕ → ℕ → ℕ → ℕ → Type 0
+  Rest s n p q = Among D G s n p ⊎ Stood {A = Unit {0}} (λ _ bs. Every P bs) (many n G) s p q tt
+
+  times-more : (n : ℕ) → TiedBut D (λ _ b. P b) F G → Times n → Times (suc n)
+  unfolding times many
+  times-more n t u = record { ties = whole }
+    where
+      second : (s : List ℕ) (p m q : ℕ) (b : B) → Stands s G p m b → P b → Rest s n m q → Rest s (suc n) p q
+      second s p m q b h r (inl d) = inl (in-later b h d)
+      second s p m q b h r (inr y) =
+          inr (record {
+            value = b ∷ y .value;
+            stands = bind-stands s G (λ a. bind (many n G) (λ more. done (a ∷ more))) p m q b (b ∷ y .value) h (bind-stands s (many n G) (λ more. done (b ∷ more)) m q q (y .value) (b ∷ y .value) (y .stands) (refl, refl));
+            related = (r, y .related);
+          })
+
+      first : (s : List ℕ) (p m q : ℕ) (a : A) → Stands s (times n F nothing) m q tt → D s p ⊎ Stood (λ _ b. P b) G s p m a → Rest s (suc n) p q
+      first s p m q a h (inl d) = inl (in-next d)
+      first s p m q a h (inr x) = second s p m q (x .value) (x .stands) (x .related) (u .ties s m q tt h)
+
+      whole : (s : List ℕ) (p q : ℕ) (c : Unit {0}) → Stands s (times (suc n) F nothing) p q c → Rest s (suc n) p q
+      whole s p q c h = let w = stands-bind s F (λ _. times n F nothing) p q c h in first s p (w .0) q (w .1) (w .3) (t .ties s p (w .0) (w .1) (w .2))
+
+  pub but-times : (n : ℕ) → TiedBut D (λ _ b. P b) F G → Times n
+  unfolding times many
+  but-times zero t = record { ties = λ s p q a h. inr (record { value = []; stands = (h .0, refl); related = tt }) }
+  but-times (suc n) t = times-more n t (but-times n t)

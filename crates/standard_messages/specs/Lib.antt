@@ -2,3 +2,4 @@ pub mod Options
 pub mod Infos
 pub mod Layouts
 pub mod Fills
+pub mod Filters
