@@ -38,9 +38,11 @@ unfolding many
 many-stands s w zero p q e h = ([], (omega arith, refl))
 many-stands s w (suc n) p q e h =
     let x = many-stands s w n (p + w) q (omega arith) h in
-    let v = le s p w in
-    (v ∷ x .0, bind-stands s (number w done) (λ a. bind (many n (number w done)) (λ more. done (a ∷ more))) p (p + w) q v (v ∷ x .0) (omega arith, (refl, refl))
-    (bind-stands s (many n (number w done)) (λ more. done (v ∷ more)) (p + w) q q (x .0) (v ∷ x .0) (x .1) (refl, refl)))
+    let v = le s p w in (
+      v ∷ x .0,
+      bind-stands s (number w done) (λ a. bind (many n (number w done)) (λ more. done (a ∷ more))) p (p + w) q v (v ∷ x .0) (omega arith, (refl, refl))
+          (bind-stands s (many n (number w done)) (λ more. done (v ∷ more)) (p + w) q q (x .0) (v ∷ x .0) (x .1) (refl, refl)),
+    )
 
 -- what stands further on, and with it the whole
 pub onward : {A B : Type 0} {R : A → B → Type 0} {G H : Format B} {s : List ℕ} {p m q : ℕ} {a : A} → Stood R G s m q a → ((b : B) → Stands s G m q b → Stands s H p q b) → Stood R H s p q a
@@ -119,6 +121,15 @@ tied-bind {F = F} {G = G} {f = f} {g = g} t k =
           let y = k (w .1) (x .value) (x .related) .ties s (w .0) q c (w .3) in
           record { value = y .value; stands = bind-stands s G g p (w .0) q (x .value) (y .value) (x .stands) (y .stands); related = y .related };
     }
+
+-- ours goes on to make a value of what it has read
+pub tied-after : {A B C : Type 0} {S : A → B → Type 0} {R : C → B → Type 0} {F : Format A} {G : Format B} (f : A → C) → ((a : A) (b : B) → S a b → R (f a) b) → Tied S F G → Tied R (bind F (λ a. done (f a))) G
+tied-after {A} {B} {C} {S} {R} {F} {G} f r t = record { ties = λ s p q c h. let w = stands-bind s F (λ a. done (f a)) p q c h in go s p q c (w .0) (w .1) (w .2) (w .3 .0) (w .3 .1) }
+  where
+    go : (s : List ℕ) (p q : ℕ) (c : C) (m : ℕ) (a : A) → Stands s F p m a → m ≡ q → f a ≡ c → Stood R G s p q c
+    go s p q c m a h e d =
+        let x = t .ties s p q a (rw e at h) in
+        rw (← d) (record { value = x .value; stands = x .stands; related = r a (x .value) (x .related) })
 
 module _ {A B : Type 0} {R : A → B → Type 0} where
   -- what ours finds elsewhere in the file and the other does not ask for

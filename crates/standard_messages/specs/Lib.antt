@@ -3,3 +3,4 @@ pub mod Infos
 pub mod Layouts
 pub mod Fills
 pub mod Filters
+pub mod Dataspaces
