@@ -122,6 +122,12 @@ tied-bind {F = F} {G = G} {f = f} {g = g} t k =
           record { value = y .value; stands = bind-stands s G g p (w .0) q (x .value) (y .value) (x .stands) (y .stands); related = y .related };
     }
 
+-- a test on the way
+pub tied-bind-check : {A B C : Type 0} {R : A → B → Type 0} (test : Bool) (n : ℕ) (F : Format C) (k : C → Format A) {G : Format B} → (test ≡ true → Tied R (bind F k) G) → Tied R (bind (check test n F) k) G
+unfolding bind
+tied-bind-check true n F k t = t refl
+tied-bind-check false n F k t = tied-refuse
+
 -- ours goes on to make a value of what it has read
 pub tied-after : {A B C : Type 0} {S : A → B → Type 0} {R : C → B → Type 0} {F : Format A} {G : Format B} (f : A → C) → ((a : A) (b : B) → S a b → R (f a) b) → Tied S F G → Tied R (bind F (λ a. done (f a))) G
 tied-after {A} {B} {C} {S} {R} {F} {G} f r t = record { ties = λ s p q c h. let w = stands-bind s F (λ a. done (f a)) p q c h in go s p q c (w .0) (w .1) (w .2) (w .3 .0) (w .3 .1) }
@@ -188,6 +194,15 @@ module _ {A B : Type 0} {R : A → B → Type 0} where
   pub tied-raw : {n : ℕ} {F : Format A} {g : Bytes → Format B} → ((x : Bytes) → x .length ≡ n → Tied R F (g x)) → Tied R (skip n F) (bind (raw n) g)
   unfolding raw bind
   tied-raw {n = n} t = record { ties = λ s p q a h. onward (t (record { position = p; length = n }) refl .ties s (p + n) q a (h .1)) (λ b i. (h .0, i)) }
+
+  -- bytes that ours passes over where a field is present, and where it is not
+  pub tied-optional : (test : Bool) (w : ℕ) {F : Format A} {g : Optional → Format B} → test ≡ true → ((o : Optional) → Tied R F (g o)) → Tied R (skip w F) (bind (optional test w) g)
+  unfolding optional bind
+  tied-optional test w e t = rw e (tied-skip-number (λ n. t (present n)))
+
+  pub tied-optional-none : (test : Bool) (w : ℕ) {F : Format A} {g : Optional → Format B} → test ≡ false → ((o : Optional) → Tied R F (g o)) → Tied R F (bind (optional test w) g)
+  unfolding optional bind
+  tied-optional-none test w e t = rw e (t absent)
 
   -- or numbers of one width
   pub tied-skip-many : (w n : ℕ) {F : Format A} {g : List ℕ → Format B} → ((xs : List ℕ) → Tied R F (g xs)) → Tied R (skip (w * n) F) (bind (many n (number w done)) g)

@@ -20,7 +20,7 @@ use Rattle.parser.specs.declared.State.{State}
 use Rattle.ohdr_dataspace.specs.declared.DataSpaceHeader.{DataSpaceHeader}
 use Rattle.ohdr_dataspace.specs.DataSpaces.{unlimited, dimension, dimensionsFrom, dimensions, kind, headerFlags, headerSizes, dataSpaceHeader, maximumSizes, dataSpaceOf, dataSpaceSizes, dataSpace}
 use Rattle.standard.specs.Fields.{only, many}
-use Rattle.standard.specs.Tie.{Tied, tied-done, tied-number, tied-skip, tied-split, tied-check, tied-only, tied-bind, tied-more, tied-refuse, tied-after}
+use Rattle.standard.specs.Tie.{Tied, tied-done, tied-number, tied-skip, tied-split, tied-check, tied-only, tied-bind, tied-more, tied-after, tied-bind-check}
 use Rattle.standard.specs.Versions.{byVersion, marked, tied-by-version, tied-marked}
 use Rattle.standard.specs.Dataspaces.{Stored, not-stored, stored, storedSizes, Dataspace1, dataspace1, Dataspace2, dataspace2, ValidDataspace2, Dataspace, version-1, version-2, dataspaceMessage}
 
@@ -123,12 +123,6 @@ sizes2-tied version dimensionality flags type w h =
     tied-bind (maximum-tied dimensionality w (bit flags 0) h) (λ _ _ m.
     tied-done (record { dimensionality = refl; flags = refl; type = refl; dimension-size = s; dimension-maximum-size = m; valid = λ a. record { type-known = a .type-known; scalar = a .scalar; simple = a .simple } })))
 
--- a test on the way
-bound-check : {A B C : Type 0} {R : A → B → Type 0} (test : Bool) (n : ℕ) (F : Format C) (k : C → Format A) {G : Format B} → (test ≡ true → Tied R (bind F k) G) → Tied R (bind (check test n F) k) G
-unfolding bind
-bound-check true n F k t = t refl
-bound-check false n F k t = tied-refuse
-
 flags-clear : (v : Bool) (b : Bool) → v ≡ true → not (v && b) ≡ true → b ≡ false
 flags-clear true b e h = not-true b h
 flags-clear false b e h = absurd (let z : _≡_ {A = ℕ} 0 1 = cc in omega arith)
@@ -140,11 +134,11 @@ version1-tied w v e =
     tied-check (eqb version v) 0 (λ d.
     let f : eqb version 1 ≡ true = eq-eqb version 1 (eqb-true version v d ∙ e) in
     tied-only (eqb version 1) f (
-    bound-check (eqb version 1 || eqb version 2) 9 (headerSizes version) (dataSpaceSizes w) (λ _.
+    tied-bind-check (eqb version 1 || eqb version 2) 9 (headerSizes version) (dataSpaceSizes w) (λ _.
     tied-number (λ dimensionality.
-    bound-check (leb dimensionality 4) 9 (headerFlags version dimensionality) (dataSpaceSizes w) (λ h.
+    tied-bind-check (leb dimensionality 4) 9 (headerFlags version dimensionality) (dataSpaceSizes w) (λ h.
     tied-number (λ flags.
-    bound-check (not (eqb version 1 && bit flags 1)) 9 _ (dataSpaceSizes w) (λ c.
+    tied-bind-check (not (eqb version 1 && bit flags 1)) 9 _ (dataSpaceSizes w) (λ c.
     rw f (tied-split 1 4 (tied-skip (tied-skip (sizes1-tied version dimensionality flags w (leb-true dimensionality 4 h) (flags-clear (eqb version 1) (bit flags 1) f c)))))))))))))
 
 version2-tied : (w v : ℕ) → v ≡ 2 → Tied SameDataspace2 (number 1 (λ n. only (eqb n v) (bind (check (eqb n 1 || eqb n 2) 9 (headerSizes n)) (dataSpaceSizes w)))) (dataspace2 w)
@@ -155,11 +149,11 @@ version2-tied w v e =
     let i : version ≡ 2 = eqb-true version v d ∙ e in
     let f : eqb version 1 ≡ false = ne-eqb version 1 (λ z. omega arith) in
     tied-only (eqb version 2) (eq-eqb version 2 i) (
-    bound-check (eqb version 1 || eqb version 2) 9 (headerSizes version) (dataSpaceSizes w) (λ _.
+    tied-bind-check (eqb version 1 || eqb version 2) 9 (headerSizes version) (dataSpaceSizes w) (λ _.
     tied-number (λ dimensionality.
-    bound-check (leb dimensionality 4) 9 (headerFlags version dimensionality) (dataSpaceSizes w) (λ h.
+    tied-bind-check (leb dimensionality 4) 9 (headerFlags version dimensionality) (dataSpaceSizes w) (λ h.
     tied-number (λ flags.
-    bound-check (not (eqb version 1 && bit flags 1)) 9 _ (dataSpaceSizes w) (λ c.
+    tied-bind-check (not (eqb version 1 && bit flags 1)) 9 _ (dataSpaceSizes w) (λ c.
     rw f (tied-number (λ type. sizes2-tied version dimensionality flags type w (leb-true dimensionality 4 h)))))))))))
 
 -- no other version
@@ -190,4 +184,4 @@ dataspace-tied s = tied-by-version (λ v. go v (eqb v 1) refl)
         second false d =
             neither (λ n.
             tied-check (eqb n v) 0 (λ i.
-            bound-check (eqb n 1 || eqb n 2) 9 (headerSizes n) (dataSpaceSizes (s .«size_of_lengths»)) (λ o. absurd (not-both n v e d i o))))
+            tied-bind-check (eqb n 1 || eqb n 2) 9 (headerSizes n) (dataSpaceSizes (s .«size_of_lengths»)) (λ o. absurd (not-both n v e d i o))))
