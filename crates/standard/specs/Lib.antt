@@ -1,0 +1,4 @@
+pub mod Fields
+pub mod Tie
+pub mod TieMore
+pub mod Datatypes

@@ -1,0 +1,209 @@
+-- Wherever one format stands another stands over the same bytes, with a value that is related to its value: one law for each way in
+-- which formats are put together. Assumes nothing.
+use Prim.Native.Nat.{ℕ, zero, suc, _+_, _≤_}
+use mathlib.Core.Path.{_≡_, refl, sym, ap, _∙_}
+use mathlib.Core.Logic.{_⊎_, inl, inr}
+use mathlib.Core.Bool.{Bool, true, false}
+use mathlib.Core.List.{List, [], _∷_}
+use native.Mathlib.Omega.{arith}
+use lib.ListN.{length}
+use Rattle.format.specs.Bytes.{le}
+use Rattle.format.specs.Format.{Format, done, refuse, number, skip, bytes, name, text, here, there, attempt, Stands, read, found, bind, times, check, pick, nothing}
+use Rattle.format.specs.Laws.{sound, complete}
+use Rattle.format.specs.Steps.{read-bind}
+use Rattle.format.specs.Standing.{stands-bind, stands-check}
+use Rattle.standard.specs.Fields.{Optional, absent, present, Bytes, only, optional, raw, many}
+
+-- the converse of stands-bind
+pub bind-stands : {A B : Type 0} (s : List ℕ) (F : Format A) (k : A → Format B) (p m q : ℕ) (a : A) (b : B) → Stands s F p m a → Stands s (k a) m q b → Stands s (bind F k) p q b
+bind-stands s F k p m q a b h i = sound s (bind F k) p q b (rw (read-bind, complete s F p m a h) (complete s (k a) m q b i))
+
+-- G stands from p to q, and its value is related to a
+pub record Stood {A B : Type 0} (R : A → B → Type 0) (G : Format B) (s : List ℕ) (p q : ℕ) (a : A) : Type 0 where
+  pub value : B
+  pub stands : Stands s G p q value
+  pub related : R a value
+
+-- wherever F stands, G stands over the same bytes with a value that is related to F's
+pub record Tied {A B : Type 0} (R : A → B → Type 0) (F : Format A) (G : Format B) : Type 0 where
+  pub ties : (s : List ℕ) (p q : ℕ) (a : A) → Stands s F p q a → Stood R G s p q a
+
+-- the same, but where a listed difference applies
+pub record TiedBut {A B : Type 0} (D : List ℕ → ℕ → Type 0) (R : A → B → Type 0) (F : Format A) (G : Format B) : Type 0 where
+  pub ties : (s : List ℕ) (p q : ℕ) (a : A) → Stands s F p q a → D s p ⊎ Stood R G s p q a
+
+-- what stands further on, and with it the whole
+pub onward : {A B : Type 0} {R : A → B → Type 0} {G H : Format B} {s : List ℕ} {p m q : ℕ} {a : A} → Stood R G s m q a → ((b : B) → Stands s G m q b → Stands s H p q b) → Stood R H s p q a
+onward x f = record { value = x .value; stands = f (x .value) (x .stands); related = x .related }
+
+module _ {A B : Type 0} {R : A → B → Type 0} where
+  pub tied-done : {x : A} {y : B} → R x y → Tied R (done x) (done y)
+  tied-done {y = y} r = record { ties = λ s p q a h. record { value = y; stands = (h .0, refl); related = rw (← h .1) r } }
+
+  -- the same number on both sides
+  pub tied-number : {w : ℕ} {f : ℕ → Format A} {g : ℕ → Format B} → ((n : ℕ) → Tied R (f n) (g n)) → Tied R (number w f) (number w g)
+  tied-number {w = w} t = record { ties = λ s p q a h. onward (t (le s p w) .ties s (p + w) q a (h .1)) (λ b i. (h .0, i)) }
+
+  -- bytes that one side passes over and the other reads
+  pub tied-skip : {n : ℕ} {F : Format A} {G : Format B} → Tied R F G → Tied R (skip n F) (skip n G)
+  tied-skip {n = n} t = record { ties = λ s p q a h. onward (t .ties s (p + n) q a (h .1)) (λ b i. (h .0, i)) }
+
+  pub tied-bytes : {n : ℕ} {F : Format A} {G : Format B} → Tied R F G → Tied R (bytes n F) (bytes n G)
+  tied-bytes {n = n} t = record { ties = λ s p q a h. onward (t .ties s (p + n) q a (h .1)) (λ b i. (h .0, i)) }
+
+  pub tied-skip-bytes : {n : ℕ} {F : Format A} {G : Format B} → Tied R F G → Tied R (skip n F) (bytes n G)
+  tied-skip-bytes {n = n} t = record { ties = λ s p q a h. onward (t .ties s (p + n) q a (h .1)) (λ b i. (h .0, i)) }
+
+  pub tied-skip-number : {w : ℕ} {F : Format A} {g : ℕ → Format B} → ((n : ℕ) → Tied R F (g n)) → Tied R (skip w F) (number w g)
+  tied-skip-number {w = w} t = record { ties = λ s p q a h. onward (t (le s p w) .ties s (p + w) q a (h .1)) (λ b i. (h .0, i)) }
+
+  pub tied-number-skip : {w : ℕ} {f : ℕ → Format A} {G : Format B} → ((n : ℕ) → Tied R (f n) G) → Tied R (number w f) (skip w G)
+  tied-number-skip {w = w} t = record { ties = λ s p q a h. onward (t (le s p w) .ties s (p + w) q a (h .1)) (λ b i. (h .0, i)) }
+
+  -- a position on one side or on both
+  pub tied-here : {f : ℕ → Format A} {g : ℕ → Format B} → ((p : ℕ) → Tied R (f p) (g p)) → Tied R (here f) (here g)
+  tied-here t = record { ties = λ s p q a h. onward (t p .ties s p q a h) (λ b i. i) }
+
+  pub tied-here-left : {f : ℕ → Format A} {G : Format B} → ((p : ℕ) → Tied R (f p) G) → Tied R (here f) G
+  tied-here-left t = record { ties = λ s p q a h. onward (t p .ties s p q a h) (λ b i. i) }
+
+  pub tied-here-right : {F : Format A} {g : ℕ → Format B} → ((p : ℕ) → Tied R F (g p)) → Tied R F (here g)
+  tied-here-right t = record { ties = λ s p q a h. onward (t p .ties s p q a h) (λ b i. i) }
+
+  -- one side has a test more: the rest is given that it holds, or it is shown to hold
+  pub tied-check : (test : Bool) (n : ℕ) {F : Format A} {G : Format B} → (test ≡ true → Tied R F G) → Tied R (check test n F) G
+  tied-check test n {F = F} t = record { ties = λ s p q a h. let w = stands-check s test n F p q a h in t (w .0) .ties s p q a (w .1) }
+
+  pub tied-only : (test : Bool) {F : Format A} {G : Format B} → test ≡ true → Tied R F G → Tied R F (only test G)
+  tied-only test e t = rw e t
+
+  -- both branch on a test
+  pub tied-pick : (test : Bool) {F F′ : Format A} {G G′ : Format B} → (test ≡ true → Tied R F G) → (test ≡ false → Tied R F′ G′) → Tied R (pick test F F′) (pick test G G′)
+  tied-pick true t f = t refl
+  tied-pick false t f = f refl
+
+  -- one side branches
+  pub tied-pick-left : (test : Bool) {F F′ : Format A} {G : Format B} → (test ≡ true → Tied R F G) → (test ≡ false → Tied R F′ G) → Tied R (pick test F F′) G
+  tied-pick-left true t f = t refl
+  tied-pick-left false t f = f refl
+
+  pub tied-pick-yes : (test : Bool) {F : Format A} {G : Format B} (G′ : Format B) → test ≡ true → Tied R F G → Tied R F (pick test G G′)
+  tied-pick-yes test G′ e t = rw e t
+
+  pub tied-pick-no : (test : Bool) {F : Format A} (G : Format B) {G′ : Format B} → test ≡ false → Tied R F G′ → Tied R F (pick test G G′)
+  tied-pick-no test G e t = rw e t
+
+  -- what is refused stands nowhere
+  pub tied-refuse : {n : ℕ} {G : Format B} → Tied R (refuse n) G
+  tied-refuse = record { ties = λ s p q a h. absurd h }
+
+-- one format after another
+pub tied-bind : {A B C E : Type 0} {S : A → B → Type 0} {R : C → E → Type 0} {F : Format A} {G : Format B} {f : A → Format C} {g : B → Format E}
+    → Tied S F G → ((a : A) (b : B) → S a b → Tied R (f a) (g b)) → Tied R (bind F f) (bind G g)
+tied-bind {F = F} {G = G} {f = f} {g = g} t k =
+    record {
+      ties =
+          λ s p q c h.
+          let w = stands-bind s F f p q c h in
+          let x = t .ties s p (w .0) (w .1) (w .2) in
+          let y = k (w .1) (x .value) (x .related) .ties s (w .0) q c (w .3) in
+          record { value = y .value; stands = bind-stands s G g p (w .0) q (x .value) (y .value) (x .stands) (y .stands); related = y .related };
+    }
+
+module _ {A B : Type 0} {R : A → B → Type 0} where
+  -- what ours finds elsewhere in the file and the other does not ask for
+  pub tied-there-left : {C : Type 0} {o : ℕ} {F : Format C} {k : C → Format A} {G : Format B} → ((c : C) → Tied R (k c) G) → Tied R (there o F k) G
+  tied-there-left t = record { ties = λ s p q a h. t (h .1) .ties s p q a (h .3) }
+
+  -- bytes that are passed over, in two pieces and in one
+  pub tied-split : (m n : ℕ) {F : Format A} {G : Format B} → Tied R (skip m (skip n F)) G → Tied R (skip (m + n) F) G
+  tied-split m n {F = F} t =
+      record {
+        ties =
+            λ s p q a h.
+            let e : p + (m + n) ≡ p + m + n = omega arith in
+            let i : Stands s F (p + m + n) q a = rw e at (h .1) in
+            t .ties s p q a (omega (arith, h .0), (omega (arith, h .0), i));
+      }
+
+  pub tied-join : (m n : ℕ) {F : Format A} {G : Format B} → Tied R (skip (m + n) F) G → Tied R (skip m (skip n F)) G
+  tied-join m n {F = F} t =
+      record {
+        ties =
+            λ s p q a h.
+            let e : p + m + n ≡ p + (m + n) = omega arith in
+            let i : Stands s F (p + (m + n)) q a = rw e at (h .1 .1) in
+            t .ties s p q a (omega (arith, h .1 .0), i);
+      }
+
+  -- nothing is passed over
+  pub tied-skip-none : {F : Format A} {G : Format B} → Tied R F G → Tied R (skip 0 F) G
+  tied-skip-none {F = F} t = record { ties = λ s p q a h. let e : p + 0 ≡ p = omega arith in let i : Stands s F p q a = rw e at (h .1) in t .ties s p q a i }
+
+  -- a relation that follows from another
+  pub tied-more : {S : A → B → Type 0} {F : Format A} {G : Format B} → ((a : A) (b : B) → S a b → R a b) → Tied S F G → Tied R F G
+  tied-more f t = record { ties = λ s p q a h. let x = t .ties s p q a h in record { value = x .value; stands = x .stands; related = f a (x .value) (x .related) } }
+
+  -- where no difference applies, and where one does because another does
+  pub but-tied : {D : List ℕ → ℕ → Type 0} {F : Format A} {G : Format B} → Tied R F G → TiedBut D R F G
+  but-tied t = record { ties = λ s p q a h. inr (t .ties s p q a h) }
+
+  pub but-more : {D E : List ℕ → ℕ → Type 0} {F : Format A} {G : Format B} → ((s : List ℕ) (p : ℕ) → D s p → E s p) → TiedBut D R F G → TiedBut E R F G
+  but-more {D = D} {E = E} {G = G} f t = record { ties = λ s p q a h. go s p q a (t .ties s p q a h) }
+    where
+      go : (s : List ℕ) (p q : ℕ) (a : A) → D s p ⊎ Stood R G s p q a → E s p ⊎ Stood R G s p q a
+      go s p q a (inl d) = inl (f s p d)
+      go s p q a (inr x) = inr x
+
+-- a difference in the first of two formats, or in the second after the first
+pub data Either {B : Type 0} (D : List ℕ → ℕ → Type 0) (G : Format B) (E : B → List ℕ → ℕ → Type 0) (s : List ℕ) (p : ℕ) : Type 0 where
+  in-first : D s p → Either D G E s p
+  in-second : (m : ℕ) (b : B) → Stands s G p m b → E b s m → Either D G E s p
+
+-- a difference in one of n: so many stand, and the next one differs
+pub data Among {B : Type 0} (D : List ℕ → ℕ → Type 0) (G : Format B) (s : List ℕ) : ℕ → ℕ → Type 0 where
+  in-next : {n p : ℕ} → D s p → Among D G s (suc n) p
+  in-later : {n p m : ℕ} (b : B) → Stands s G p m b → Among D G s n m → Among D G s (suc n) p
+
+pub but-bind : {A B C E : Type 0} {S : A → B → Type 0} {R : C → E → Type 0} {D : List ℕ → ℕ → Type 0} {D′ : B → List ℕ → ℕ → Type 0} {F : Format A} {G : Format B} {f : A → Format C} {g : B → Format E}
+    → TiedBut D S F G → ((a : A) (b : B) → S a b → TiedBut (D′ b) R (f a) (g b)) → TiedBut (Either D G D′) R (bind F f) (bind G g)
+but-bind {A} {B} {C} {E} {S} {R} {D} {D′} {F} {G} {f} {g} t k = record { ties = whole }
+  where
+    second : (s : List ℕ) (p m q : ℕ) (c : C) (a : A) (b : B) → Stands s G p m b → D′ b s m ⊎ Stood R (g b) s m q c → Either D G D′ s p ⊎ Stood R (bind G g) s p q c
+    second s p m q c a b h (inl d) = inl (in-second m b h d)
+    second s p m q c a b h (inr y) = inr (onward y (λ e i. bind-stands s G g p m q b e h i))
+
+    first : (s : List ℕ) (p m q : ℕ) (c : C) (a : A) → Stands s (f a) m q c → D s p ⊎ Stood S G s p m a → Either D G D′ s p ⊎ Stood R (bind G g) s p q c
+    first s p m q c a h (inl d) = inl (in-first d)
+    first s p m q c a h (inr x) = second s p m q c a (x .value) (x .stands) (k a (x .value) (x .related) .ties s m q c h)
+
+    whole : (s : List ℕ) (p q : ℕ) (c : C) → Stands s (bind F f) p q c → Either D G D′ s p ⊎ Stood R (bind G g) s p q c
+    whole s p q c h = let w = stands-bind s F f p q c h in first s p (w .0) q c (w .1) (w .3) (t .ties s p (w .0) (w .1) (w .2))
+
+-- one format n times, and a list of the other's values
+pub but-times : {A B : Type 0} {S : A → B → Type 0} {D : List ℕ → ℕ → Type 0} {F : Format A} {G : Format B} (n : ℕ)
+    → TiedBut D S F G → TiedBut (λ s p. Among D G s n p) (λ _ _. Unit {0}) (times n F nothing) (many n G)
+unfolding times many
+but-times zero t = record { ties = λ s p q a h. inr (record { value = []; stands = (h .0, refl); related = tt }) }
+but-times {A} {B} {S} {D} {F} {G} (suc n) t = more (but-times n t)
+  where
+    more : TiedBut (λ s p. Among D G s n p) (λ _ _. Unit {0}) (times n F nothing) (many n G) → TiedBut (λ s p. Among D G s (suc n) p) (λ _ _. Unit {0}) (times (suc n) F nothing) (many (suc n) G)
+    more u = record { ties = whole }
+      where
+        second : (s : List ℕ) (p m q : ℕ) (b : B) → Stands s G p m b → Among D G s n m ⊎ Stood {A = Unit {0}} (λ _ _. Unit {0}) (many n G) s m q tt
+            → Among D G s (suc n) p ⊎ Stood {A = Unit {0}} (λ _ _. Unit {0}) (many (suc n) G) s p q tt
+        second s p m q b h (inl d) = inl (in-later b h d)
+        second s p m q b h (inr y) =
+            inr (record {
+              value = b ∷ y .value;
+              stands = bind-stands s G (λ a. bind (many n G) (λ more. done (a ∷ more))) p m q b (b ∷ y .value) h (bind-stands s (many n G) (λ more. done (b ∷ more)) m q q (y .value) (b ∷ y .value) (y .stands) (refl, refl));
+              related = tt;
+            })
+
+        first : (s : List ℕ) (p m q : ℕ) (a : A) → Stands s (times n F nothing) m q tt → D s p ⊎ Stood S G s p m a
+            → Among D G s (suc n) p ⊎ Stood {A = Unit {0}} (λ _ _. Unit {0}) (many (suc n) G) s p q tt
+        first s p m q a h (inl d) = inl (in-next d)
+        first s p m q a h (inr x) = second s p m q (x .value) (x .stands) (u .ties s m q tt h)
+
+        whole : (s : List ℕ) (p q : ℕ) (c : Unit {0}) → Stands s (times (suc n) F nothing) p q c → Among D G s (suc n) p ⊎ Stood {A = Unit {0}} (λ _ _. Unit {0}) (many (suc n) G) s p q c
+        whole s p q c h = let w = stands-bind s F (λ _. times n F nothing) p q c h in first s p (w .0) q (w .1) (w .3) (t .ties s p (w .0) (w .1) (w .2))
