@@ -2,3 +2,4 @@ pub mod Fields
 pub mod Tie
 pub mod TieMore
 pub mod Datatypes
+pub mod DatatypeBounds
