@@ -8,7 +8,7 @@ use Rattle.format.specs.Bits.{bit}
 use Rattle.format.specs.Format.{Format, done, refuse, number, here, bind, pick}
 use Rattle.standard.specs.Fields.{Bytes, only, raw}
 use Rattle.standard.specs.Versions.{byVersion, marked}
-use Rattle.standard.specs.Datatypes.{toMultipleOf8, DatatypeHeader, Datatype, datatype, datatypeMessage}
+use Rattle.standard.specs.Datatypes.{toMultipleOf8, Datatype, headerOf, datatypeMessage}
 use Rattle.standard.specs.Dataspaces.{Dataspace, version-1, version-2, dataspaceMessage}
 
 -- Layout: Attribute Message (Version 1), up to the name
@@ -99,7 +99,7 @@ elements (version-2 x) = pick (eqb (x .type) 0) 1 (pick (eqb (x .type) 2) 0 (pro
 
 -- the size of a datatype element
 abbrev pub elementSize : Datatype → ℕ
-elementSize (datatype h p) = h .size
+elementSize t = headerOf t .size
 
 -- Data: "the size is determined from the datatype and dataspace descriptions"
 abbrev pub rawSize : Described → ℕ

@@ -164,6 +164,9 @@ mutual
     version-1 : Member1 → Datatype → Members → Members
     version-3 : Member3 → Datatype → Members → Members
 
+abbrev pub headerOf : Datatype → DatatypeHeader
+headerOf (datatype h p) = h
+
 -- Compound Bit Field Description: bits 0-15 are the number of members
 abbrev pub memberCount : DatatypeHeader → ℕ
 memberCount h = h .class-bit-field % 65536

@@ -10,10 +10,7 @@ use Rattle.records.specs.declared.DataFormat.the-variants as formats
 use Rattle.records.specs.declared.OptionDataFormat.{OptionDataFormat}
 use Rattle.records.specs.declared.OptionDataFormat.the-variants as optionFormats
 use Rattle.records.specs.declared.DataType.{DataType}
-use Rattle.standard.specs.Datatypes.{DatatypeHeader, class, Datatype, datatype, Properties, fixed-point, floating-point, no-properties, members, parent-type}
-
-abbrev pub headerOf : Datatype → DatatypeHeader
-headerOf (datatype h p) = h
+use Rattle.standard.specs.Datatypes.{DatatypeHeader, class, Datatype, datatype, headerOf, Properties, fixed-point, floating-point, no-properties, members, parent-type}
 
 -- the format of a number is that of the property fields; a variable-length type takes it of its parent type, and so on to the innermost
 abbrev mutual

@@ -27,7 +27,7 @@ use Rattle.standard.specs.Tie.{bind-stands, Stood, Tied, TiedBut, tied-done, ti
 use Rattle.standard.specs.TieMore.{but-map}
 use Rattle.standard.specs.Datatypes.{DatatypeHeader, datatypeHeader, class, version, memberCount, FixedPoint, fixedPoint, FloatingPoint, floatingPoint, terminated, Member3, member3, offsetBytes, Datatype, datatype, Properties, fixed-point, floating-point, no-properties, members, parent-type, Members, no-members, version-3, members1, members3, compound, properties, datatypeOf, datatypeMessage}
 use Rattle.standard_datatype.specs.Differences.{LongName, TypeDiffers, in-properties, PropertiesDiffer, members-of-version-1, compound-of-size-0, in-members, in-parent-type, MembersDiffer, long-name, in-member-type, in-later}
-use Rattle.standard_datatype.specs.Same.{headerOf, formatOf, formatIn, listSizeOf, SameType}
+use Rattle.standard_datatype.specs.Same.{formatOf, formatIn, listSizeOf, SameType}
 
 -- the header of the standard that has the fields of ours
 abbrev theHeader : DataTypeHeader → DatatypeHeader
