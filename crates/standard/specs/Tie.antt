@@ -1,6 +1,6 @@
 -- Wherever one format stands another stands over the same bytes, with a value that is related to its value: one law for each way in
 -- which formats are put together. Assumes nothing.
-use Prim.Native.Nat.{ℕ, zero, suc, _+_, _≤_}
+use Prim.Native.Nat.{ℕ, zero, suc, _+_, _*_, _≤_}
 use mathlib.Core.Path.{_≡_, refl, sym, ap, _∙_}
 use mathlib.Core.Logic.{_⊎_, inl, inr}
 use mathlib.Core.Bool.{Bool, true, false}
@@ -31,6 +31,18 @@ pub record Tied {A B : Type 0} (R : A → B → Type 0) (F : Format A) (G : Form
 -- the same, but where a listed difference applies
 pub record TiedBut {A B : Type 0} (D : List ℕ → ℕ → Type 0) (R : A → B → Type 0) (F : Format A) (G : Format B) : Type 0 where
   pub ties : (s : List ℕ) (p q : ℕ) (a : A) → Stands s F p q a → D s p ⊎ Stood R G s p q a
+
+-- numbers of one width stand wherever there is room for them
+pub many-stands : (s : List ℕ) (w n p q : ℕ) → q ≡ p + w * n → q ≤ length s → (xs : List ℕ) × Stands s (many n (number w done)) p q xs
+unfolding many
+many-stands s w zero p q e h = ([], (omega arith, refl))
+many-stands s w (suc n) p q e h =
+    let x = many-stands s w n (p + w) q (omega arith) h in
+    let v = le s p w in (
+      v ∷ x .0,
+      bind-stands s (number w done) (λ a. bind (many n (number w done)) (λ more. done (a ∷ more))) p (p + w) q v (v ∷ x .0) (omega arith, (refl, refl))
+          (bind-stands s (many n (number w done)) (λ more. done (v ∷ more)) (p + w) q q (x .0) (v ∷ x .0) (x .1) (refl, refl)),
+    )
 
 -- what stands further on, and with it the whole
 pub onward : {A B : Type 0} {R : A → B → Type 0} {G H : Format B} {s : List ℕ} {p m q : ℕ} {a : A} → Stood R G s m q a → ((b : B) → Stands s G m q b → Stands s H p q b) → Stood R H s p q a
@@ -110,6 +122,21 @@ tied-bind {F = F} {G = G} {f = f} {g = g} t k =
           record { value = y .value; stands = bind-stands s G g p (w .0) q (x .value) (y .value) (x .stands) (y .stands); related = y .related };
     }
 
+-- a test on the way
+pub tied-bind-check : {A B C : Type 0} {R : A → B → Type 0} (test : Bool) (n : ℕ) (F : Format C) (k : C → Format A) {G : Format B} → (test ≡ true → Tied R (bind F k) G) → Tied R (bind (check test n F) k) G
+unfolding bind
+tied-bind-check true n F k t = t refl
+tied-bind-check false n F k t = tied-refuse
+
+-- ours goes on to make a value of what it has read
+pub tied-after : {A B C : Type 0} {S : A → B → Type 0} {R : C → B → Type 0} {F : Format A} {G : Format B} (f : A → C) → ((a : A) (b : B) → S a b → R (f a) b) → Tied S F G → Tied R (bind F (λ a. done (f a))) G
+tied-after {A} {B} {C} {S} {R} {F} {G} f r t = record { ties = λ s p q c h. let w = stands-bind s F (λ a. done (f a)) p q c h in go s p q c (w .0) (w .1) (w .2) (w .3 .0) (w .3 .1) }
+  where
+    go : (s : List ℕ) (p q : ℕ) (c : C) (m : ℕ) (a : A) → Stands s F p m a → m ≡ q → f a ≡ c → Stood R G s p q c
+    go s p q c m a h e d =
+        let x = t .ties s p q a (rw e at h) in
+        rw (← d) (record { value = x .value; stands = x .stands; related = r a (x .value) (x .related) })
+
 module _ {A B : Type 0} {R : A → B → Type 0} where
   -- what ours finds elsewhere in the file and the other does not ask for
   pub tied-there-left : {C : Type 0} {o : ℕ} {F : Format C} {k : C → Format A} {G : Format B} → ((c : C) → Tied R (k c) G) → Tied R (there o F k) G
@@ -155,6 +182,38 @@ module _ {A B : Type 0} {R : A → B → Type 0} where
       go s p q a (inl d) = inl (f s p d)
       go s p q a (inr x) = inr x
 
+  -- no difference is listed
+  pub tied-none : {F : Format A} {G : Format B} → TiedBut (λ s p. ⊥) R F G → Tied R F G
+  tied-none {G = G} t = record { ties = λ s p q a h. go s p q a (t .ties s p q a h) }
+    where
+      go : (s : List ℕ) (p q : ℕ) (a : A) → ⊥ ⊎ Stood R G s p q a → Stood R G s p q a
+      go s p q a (inl d) = absurd d
+      go s p q a (inr x) = x
+
+  -- bytes that ours passes over, and the other hands out
+  pub tied-raw : {n : ℕ} {F : Format A} {g : Bytes → Format B} → ((x : Bytes) → x .length ≡ n → Tied R F (g x)) → Tied R (skip n F) (bind (raw n) g)
+  unfolding raw bind
+  tied-raw {n = n} t = record { ties = λ s p q a h. onward (t (record { position = p; length = n }) refl .ties s (p + n) q a (h .1)) (λ b i. (h .0, i)) }
+
+  -- bytes that ours passes over where a field is present, and where it is not
+  pub tied-optional : (test : Bool) (w : ℕ) {F : Format A} {g : Optional → Format B} → test ≡ true → ((o : Optional) → Tied R F (g o)) → Tied R (skip w F) (bind (optional test w) g)
+  unfolding optional bind
+  tied-optional test w e t = rw e (tied-skip-number (λ n. t (present n)))
+
+  pub tied-optional-none : (test : Bool) (w : ℕ) {F : Format A} {g : Optional → Format B} → test ≡ false → ((o : Optional) → Tied R F (g o)) → Tied R F (bind (optional test w) g)
+  unfolding optional bind
+  tied-optional-none test w e t = rw e (t absent)
+
+  -- or numbers of one width
+  pub tied-skip-many : (w n : ℕ) {F : Format A} {g : List ℕ → Format B} → ((xs : List ℕ) → Tied R F (g xs)) → Tied R (skip (w * n) F) (bind (many n (number w done)) g)
+  tied-skip-many w n {g = g} t =
+      record {
+        ties =
+            λ s p q a h.
+            let x = many-stands s w n p (p + w * n) refl (h .0) in
+            onward (t (x .0) .ties s (p + w * n) q a (h .1)) (λ b i. bind-stands s (many n (number w done)) g p (p + w * n) q (x .0) b (x .1) i);
+      }
+
 -- a difference in the first of two formats, or in the second after the first
 pub data Either {B : Type 0} (D : List ℕ → ℕ → Type 0) (G : Format B) (E : B → List ℕ → ℕ → Type 0) (s : List ℕ) (p : ℕ) : Type 0 where
   in-first : D s p → Either D G E s p
@@ -180,30 +239,41 @@ but-bind {A} {B} {C} {E} {S} {R} {D} {D′} {F} {G} {f} {g} t k = record { ties 
     whole : (s : List ℕ) (p q : ℕ) (c : C) → Stands s (bind F f) p q c → Either D G D′ s p ⊎ Stood R (bind G g) s p q c
     whole s p q c h = let w = stands-bind s F f p q c h in first s p (w .0) q c (w .1) (w .3) (t .ties s p (w .0) (w .1) (w .2))
 
--- one format n times, and a list of the other's values
-pub but-times : {A B : Type 0} {S : A → B → Type 0} {D : List ℕ → ℕ → Type 0} {F : Format A} {G : Format B} (n : ℕ)
-    → TiedBut D S F G → TiedBut (λ s p. Among D G s n p) (λ _ _. Unit {0}) (times n F nothing) (many n G)
-unfolding times many
-but-times zero t = record { ties = λ s p q a h. inr (record { value = []; stands = (h .0, refl); related = tt }) }
-but-times {A} {B} {S} {D} {F} {G} (suc n) t = more (but-times n t)
-  where
-    more : TiedBut (λ s p. Among D G s n p) (λ _ _. Unit {0}) (times n F nothing) (many n G) → TiedBut (λ s p. Among D G s (suc n) p) (λ _ _. Unit {0}) (times (suc n) F nothing) (many (suc n) G)
-    more u = record { ties = whole }
-      where
-        second : (s : List ℕ) (p m q : ℕ) (b : B) → Stands s G p m b → Among D G s n m ⊎ Stood {A = Unit {0}} (λ _ _. Unit {0}) (many n G) s m q tt
-            → Among D G s (suc n) p ⊎ Stood {A = Unit {0}} (λ _ _. Unit {0}) (many (suc n) G) s p q tt
-        second s p m q b h (inl d) = inl (in-later b h d)
-        second s p m q b h (inr y) =
-            inr (record {
-              value = b ∷ y .value;
-              stands = bind-stands s G (λ a. bind (many n G) (λ more. done (a ∷ more))) p m q b (b ∷ y .value) h (bind-stands s (many n G) (λ more. done (b ∷ more)) m q q (y .value) (b ∷ y .value) (y .stands) (refl, refl));
-              related = tt;
-            })
+-- what holds of each of a list
+abbrev pub Every : {B : Type 0} → (B → Type 0) → List B → Type 0
+Every P [] = Unit {0}
+Every P (b ∷ bs) = P b × Every P bs
 
-        first : (s : List ℕ) (p m q : ℕ) (a : A) → Stands s (times n F nothing) m q tt → D s p ⊎ Stood S G s p m a
-            → Among D G s (suc n) p ⊎ Stood {A = Unit {0}} (λ _ _. Unit {0}) (many (suc n) G) s p q tt
-        first s p m q a h (inl d) = inl (in-next d)
-        first s p m q a h (inr x) = second s p m q (x .value) (x .stands) (u .ties s m q tt h)
+-- one format n times, and a list of the other's values, of each of which P holds
+module _ {A B : Type 0} (P : B → Type 0) (D : List ℕ → ℕ → Type 0) (F : Format A) (G : Format B) where
+  abbrev Times : ℕ → Type 0
+  Times n = TiedBut (λ s p. Among D G s n p) (λ _ bs. Every P bs) (times n F nothing) (many n G)
 
-        whole : (s : List ℕ) (p q : ℕ) (c : Unit {0}) → Stands s (times (suc n) F nothing) p q c → Among D G s (suc n) p ⊎ Stood {A = Unit {0}} (λ _ _. Unit {0}) (many (suc n) G) s p q c
-        whole s p q c h = let w = stands-bind s F (λ _. times n F nothing) p q c h in first s p (w .0) q (w .1) (w .3) (t .ties s p (w .0) (w .1) (w .2))
+  -- what stands of n from p to q
+  abbrev Rest : List ℕ → ℕ → ℕ → ℕ → Type 0
+  Rest s n p q = Among D G s n p ⊎ Stood {A = Unit {0}} (λ _ bs. Every P bs) (many n G) s p q tt
+
+  times-more : (n : ℕ) → TiedBut D (λ _ b. P b) F G → Times n → Times (suc n)
+  unfolding times many
+  times-more n t u = record { ties = whole }
+    where
+      second : (s : List ℕ) (p m q : ℕ) (b : B) → Stands s G p m b → P b → Rest s n m q → Rest s (suc n) p q
+      second s p m q b h r (inl d) = inl (in-later b h d)
+      second s p m q b h r (inr y) =
+          inr (record {
+            value = b ∷ y .value;
+            stands = bind-stands s G (λ a. bind (many n G) (λ more. done (a ∷ more))) p m q b (b ∷ y .value) h (bind-stands s (many n G) (λ more. done (b ∷ more)) m q q (y .value) (b ∷ y .value) (y .stands) (refl, refl));
+            related = (r, y .related);
+          })
+
+      first : (s : List ℕ) (p m q : ℕ) (a : A) → Stands s (times n F nothing) m q tt → D s p ⊎ Stood (λ _ b. P b) G s p m a → Rest s (suc n) p q
+      first s p m q a h (inl d) = inl (in-next d)
+      first s p m q a h (inr x) = second s p m q (x .value) (x .stands) (x .related) (u .ties s m q tt h)
+
+      whole : (s : List ℕ) (p q : ℕ) (c : Unit {0}) → Stands s (times (suc n) F nothing) p q c → Rest s (suc n) p q
+      whole s p q c h = let w = stands-bind s F (λ _. times n F nothing) p q c h in first s p (w .0) q (w .1) (w .3) (t .ties s p (w .0) (w .1) (w .2))
+
+  pub but-times : (n : ℕ) → TiedBut D (λ _ b. P b) F G → Times n
+  unfolding times many
+  but-times zero t = record { ties = λ s p q a h. inr (record { value = []; stands = (h .0, refl); related = tt }) }
+  but-times (suc n) t = times-more n t (but-times n t)
