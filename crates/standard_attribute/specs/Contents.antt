@@ -28,7 +28,8 @@ use Rattle.standard.specs.Dataspaces.{Dataspace, version-1, version-2, Dataspac
 use Rattle.standard.specs.Attributes.{sized, Described, described, product, elements, elementSize, rawSize}
 use Rattle.standard_datatype.specs.Same.{SameType}
 use Rattle.standard_datatype.specs.Differences.{TypeDiffers}
-use Rattle.standard_datatype.specs.Types.{datatype-tied}
+use Rattle.standard_datatype.specs.Ties.{datatype-tied}
+use Rattle.standard_messages.specs.Dataspaces.{SameDataspace, dataspace-tied}
 use Rattle.standard_attribute.specs.Differences.{ElementsDiffer, scalar-with-sizes, null, ContentsDiffer, no-reading, in-datatype, other-datatype-size, other-dataspace-size, other-elements, variable-length-elements, long-data}
 use Rattle.standard_attribute.specs.Same.{Less, SameValue}
 
@@ -112,9 +113,13 @@ product-same [] = refl
 product-same (n ∷ ns) = rw (product-same ns)
 
 -- the sizes of a dataspace of either version
-abbrev pub sizesOf : Dataspace → List ℕ
+abbrev sizesOf : Dataspace → List ℕ
 sizesOf (version-1 x) = x .dimension-size
 sizesOf (version-2 x) = x .dimension-size
+
+same-sizes : (d : DataSpace) (b : Dataspace) → SameDataspace d b → take (d .«dimension_size» .count) (d .«dimension_size» .sizes) ≡ sizesOf b
+same-sizes d (version-1 x) h = h .dimension-size .size
+same-sizes d (version-2 x) h = h .dimension-size .size
 
 -- the elements are the product of the sizes
 elements-by : (b : Dataspace) → ElementsDiffer b ⊎ (product (sizesOf b) ≡ elements b)
@@ -129,10 +134,7 @@ elements-by (version-2 x) = go (eqb (x .type) 0) refl (eqb (x .type) 2) refl (x 
     go false e true f ns g = inl (null (eqb-true (x .type) 2 f))
     go false e false f ns g = inr refl
 
--- over the tie of the dataspace message
-module _ (s : List ℕ) (state : State) (longest : ℕ) (wide : 4095 ≤ longest)
-    (SameSpace : DataSpace → Dataspace → Type 0) (spaces-tied : Tied SameSpace (spaces.dataSpace state) (dataspaceMessage (state .«size_of_lengths»)))
-    (same-sizes : (d : DataSpace) (b : Dataspace) → SameSpace d b → take (d .«dimension_size» .count) (d .«dimension_size» .sizes) ≡ sizesOf b) where
+module _ (s : List ℕ) (state : State) (longest : ℕ) (wide : 4095 ≤ longest) where
   abbrev theTypes : Format Datatype
   theTypes = datatypeMessage longest typeLevels
 
@@ -156,11 +158,11 @@ module _ (s : List ℕ) (state : State) (longest : ℕ) (wide : 4095 ≤ longest
     abbrev Contents : ℕ → ℕ → OptionPart → Type 0
     Contents p q v = ContentsDiffer s state longest version pad datatype-size dataspace-size p ⊎ Held p q v
 
-    elements-same : (d : DataSpace) (b : Dataspace) → SameSpace d b → product (sizesOf b) ≡ elements b → spaces.elements d ≡ elements b
+    elements-same : (d : DataSpace) (b : Dataspace) → SameDataspace d b → product (sizesOf b) ≡ elements b → spaces.elements d ≡ elements b
     elements-same d b r e = product-same (take (d .«dimension_size» .count) (d .«dimension_size» .sizes)) ∙ ap product (same-sizes d b r) ∙ e
 
     -- the data, after both descriptions
-    data-tied : (p m q : ℕ) (x : Described) (t : DataType) (d : DataSpace) (v : OptionPart) → Stands s theDescribed p m x → SameType t (x .datatype) → SameSpace d (x .dataspace)
+    data-tied : (p m q : ℕ) (x : Described) (t : DataType) (d : DataSpace) (v : OptionPart) → Stands s theDescribed p m x → SameType t (x .datatype) → SameDataspace d (x .dataspace)
         → m ≤ length s → Stands s (value t (spaces.elements d)) m q v → Contents p q v
     data-tied p m q x t d v h i j l k = count (elements-by (x .dataspace))
       where
@@ -202,7 +204,7 @@ module _ (s : List ℕ) (state : State) (longest : ℕ) (wide : 4095 ≤ longest
 
     -- the dataspace's size is the one that is written, or not
     space-sized : (p m upto q : ℕ) (b : Datatype) (t : DataType) (d : DataSpace) (v : OptionPart) → Stands s (sized datatype-size theTypes) p m b → SameType t b
-        → m + pad datatype-size ≤ length s → Stood SameSpace theSpaces s (m + pad datatype-size) upto d
+        → m + pad datatype-size ≤ length s → Stood SameDataspace theSpaces s (m + pad datatype-size) upto d
         → Stands s (skip (padding version (upto - (m + pad datatype-size))) (value t (spaces.elements d))) upto q v → Contents p q v
     space-sized p m upto q b t d v h i l x k = go (eqb upto (m + pad datatype-size + dataspace-size)) refl
       where
@@ -223,7 +225,7 @@ module _ (s : List ℕ) (state : State) (longest : ℕ) (wide : 4095 ≤ longest
     space-tied p m q b t v h i l k =
         let from = m + pad datatype-size in
         let u = stands-bind s (spaces.dataSpace state) (λ d. here (λ r. skip (padding version (r - from)) (value t (spaces.elements d)))) from q v k in
-        space-sized p m (u .0) q b t (u .1) v h i l (spaces-tied .ties s from (u .0) (u .1) (u .2)) (u .3)
+        space-sized p m (u .0) q b t (u .1) v h i l (dataspace-tied state .ties s from (u .0) (u .1) (u .2)) (u .3)
 
     -- the datatype's size is the one that is written, or not
     type-sized : (p m q : ℕ) (t : DataType) (v : OptionPart) → TypeDiffers longest s p ⊎ Stood SameType theTypes s p m t

@@ -1,4 +1,4 @@
 pub mod Differences
 pub mod Same
 pub mod Contents
-pub mod Whole
+pub mod Ties

@@ -1,3 +1,3 @@
 pub mod Differences
 pub mod Same
-pub mod Types
+pub mod Ties

@@ -17,10 +17,8 @@ use Rattle.format.specs.Standing.{stands-bind, stands-check}
 use Rattle.records.specs.declared.OptionPart.{OptionPart}
 use Rattle.records.specs.declared.Part.{Part}
 use Rattle.records.specs.declared.Attribute as ours
-use Rattle.records.specs.declared.DataSpace.{DataSpace}
 use Rattle.parser.specs.declared.State.{State}
 use Rattle.ohdr_datatype.specs.DataTypes.{typeLevels}
-use Rattle.ohdr_dataspace.specs.DataSpaces as spaces
 use Rattle.ohdr_attribute.specs.declared.AttributeFields.{AttributeFields}
 use Rattle.ohdr_attribute.specs.Attributes.{namePadding, padding, typeSpaceValue, nameAndValue, encoding, attributeFields, attribute}
 use Rattle.ohdr_attribute.specs.Without.{With, Without, with-or-without}
@@ -28,11 +26,10 @@ use Rattle.standard.specs.Fields.{Bytes, only, raw}
 use Rattle.standard.specs.Tie.{bind-stands, Stood, Tied, tied-done, tied-number, tied-check}
 use Rattle.standard.specs.Versions.{byVersion, marked, version-stands, marked-stands}
 use Rattle.standard.specs.Datatypes.{toMultipleOf8, class, headerOf}
-use Rattle.standard.specs.Dataspaces.{Dataspace, dataspaceMessage}
 use Rattle.standard.specs.Attributes.{Sizes1, sizes1, Sizes3, sizes3, Described, described, rawSize, Attribute1, attribute1, Attribute3, attribute3, Attribute, of-version-1, of-version-3, attributeMessage}
 use Rattle.standard_attribute.specs.Differences.{ContentsDiffer, no-reading, AttributeDiffers, padded-name, shared, in-version-1, in-version-3}
 use Rattle.standard_attribute.specs.Same.{Less, NullTerminated, SameValue, SameFields, SameAttribute}
-use Rattle.standard_attribute.specs.Contents.{sizesOf, Held, contents-tied}
+use Rattle.standard_attribute.specs.Contents.{Held, contents-tied}
 
 -- what stands before the name, after the version
 abbrev ourFields : ℕ → Format AttributeFields
@@ -121,21 +118,18 @@ terminated-length s p m l n h i = by-le l n (λ a. by-le n l (λ b. omega arith)
     last (inl e) a = omega arith
     last (inr f) a = let e : l - 1 ≡ n = omega (arith, i .size, h .within) in f (rw e (i .terminator))
 
--- over the tie of the dataspace message
-module _ (s : List ℕ) (state : State) (longest : ℕ) (wide : 4095 ≤ longest)
-    (SameSpace : DataSpace → Dataspace → Type 0) (spaces-tied : Tied SameSpace (spaces.dataSpace state) (dataspaceMessage (state .«size_of_lengths»)))
-    (same-sizes : (d : DataSpace) (b : Dataspace) → SameSpace d b → take (d .«dimension_size» .count) (d .«dimension_size» .sizes) ≡ sizesOf b) where
+module _ (s : List ℕ) (state : State) (longest : ℕ) (wide : 4095 ≤ longest) where
   abbrev width : ℕ
   width = state .«size_of_lengths»
 
   -- datatype, dataspace and data that stand, or that have no reading
   abbrev Contents : (version : ℕ) (pad : ℕ → ℕ) → ((n : ℕ) → padding version n ≡ pad n) → ℕ → ℕ → ℕ → ℕ → OptionPart → Type 0
   Contents version pad same-pad a b p q v =
-      ContentsDiffer s state longest version pad a b p ⊎ Held s state longest wide SameSpace spaces-tied same-sizes version pad same-pad a b p q v
+      ContentsDiffer s state longest version pad a b p ⊎ Held s state longest wide version pad same-pad a b p q v
 
   contents-of : (version : ℕ) (pad : ℕ → ℕ) (same-pad : (n : ℕ) → padding version n ≡ pad n) (a b p q : ℕ) (x : ours.Attribute) → With s version state p q x ⊎ Without s version state p q x
       → Contents version pad same-pad a b p q (x .value)
-  contents-of version pad same-pad a b p q x (inl w) = contents-tied s state longest wide SameSpace spaces-tied same-sizes version pad same-pad a b p q (x .value) (w .stands)
+  contents-of version pad same-pad a b p q x (inl w) = contents-tied s state longest wide version pad same-pad a b p q (x .value) (w .stands)
   contents-of version pad same-pad a b p q x (inr w) = inl (no-reading (w .nowhere))
 
   -- the name and the value
@@ -258,8 +252,11 @@ module _ (s : List ℕ) (state : State) (longest : ℕ) (wide : 4095 ≤ longest
   by-version p m q a f (first x h e l v) i = version1 p m q a l x v h (rw e at i)
   by-version p m q a f (third x h e l v) i = version3 p m q a l x v h (rw e at i)
 
-  pub attribute-by : (p q : ℕ) (a : ours.Attribute) → Stands s (attribute state) p q a → Found p q a
+  -- An attribute stands only where the standard's attribute message stands over the same bytes, with the same name and value; or the bytes
+  -- differ in one of the ways that are listed. The relation speaks of the file, since a name and a value are handed out as parts of it.
+  pub attribute-tied : (p q : ℕ) (a : ours.Attribute) → Stands s (attribute state) p q a
+      → AttributeDiffers s state longest p ⊎ Stood (SameAttribute s) (attributeMessage longest typeLevels (state .«size_of_lengths»)) s p q a
   unfolding attribute
-  attribute-by p q a h =
+  attribute-tied p q a h =
       let w = stands-bind s attributeFields ourName p q a h in
       by-version p (w .0) q a (w .1) (fields-tied s p (w .0) (w .1) (w .2)) (w .3)
