@@ -1,8 +1,12 @@
 pub mod Fields
 pub mod Tie
+pub mod TieMore
 pub mod Versions
 pub mod Headers
 pub mod Chunks
 pub mod Dataspaces
 pub mod Infos
 pub mod Storage
+pub mod Datatypes
+pub mod DatatypeBounds
+pub mod Attributes

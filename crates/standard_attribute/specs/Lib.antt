@@ -1,0 +1,4 @@
+pub mod Differences
+pub mod Same
+pub mod Contents
+pub mod Ties

@@ -1,0 +1,40 @@
+-- What the record of a datatype that is read has of the standard's datatype message. Assumes nothing: these are definitions.
+use Prim.Native.Nat.{ℕ}
+use mathlib.Core.Path.{_≡_}
+use lib.Dec.{eqb}
+use Rattle.format.specs.Format.{pick}
+use Rattle.records.specs.declared.OptionU32.{OptionU32}
+use Rattle.records.specs.declared.OptionU32.the-variants as options32
+use Rattle.records.specs.declared.DataFormat.{DataFormat}
+use Rattle.records.specs.declared.DataFormat.the-variants as formats
+use Rattle.records.specs.declared.OptionDataFormat.{OptionDataFormat}
+use Rattle.records.specs.declared.OptionDataFormat.the-variants as optionFormats
+use Rattle.records.specs.declared.DataType.{DataType}
+use Rattle.standard.specs.Datatypes.{DatatypeHeader, class, Datatype, datatype, headerOf, Properties, fixed-point, floating-point, no-properties, members, parent-type}
+
+-- the format of a number is that of the property fields; a variable-length type takes it of its parent type, and so on to the innermost
+abbrev mutual
+  pub formatOf : Datatype → OptionDataFormat
+  formatOf (datatype h p) = formatIn p
+
+  pub formatIn : Properties → OptionDataFormat
+  formatIn (fixed-point f) = optionFormats.Some (formats.Fixed (f .bit-offset) (f .bit-precision))
+  formatIn (floating-point f) =
+      optionFormats.Some (formats.Float
+      (f .bit-offset) (f .bit-precision) (f .exponent-location) (f .exponent-size)
+      (f .mantissa-location) (f .mantissa-size) (f .exponent-bias))
+  formatIn no-properties = optionFormats.None
+  formatIn (members m) = optionFormats.None
+  formatIn (parent-type t) = formatOf t
+
+-- The standard has no list size: of a variable-length type it is the type's own size (docs/DIFFERENCES.md, 39), other classes have none.
+abbrev pub listSizeOf : DatatypeHeader → OptionU32
+listSizeOf h = pick (eqb (class h) 9) (options32.Some (h .size)) options32.None
+
+-- each field of the record is the field that the standard names
+pub record SameType (ours : DataType) (theirs : Datatype) : Type 0 where
+  pub class-and-version : ours .«class_and_version» ≡ headerOf theirs .class-and-version
+  pub class-bit-field : ours .«class_bit_field» ≡ headerOf theirs .class-bit-field
+  pub size : ours .size ≡ headerOf theirs .size
+  pub list-size : ours .«list_size» ≡ listSizeOf (headerOf theirs)
+  pub properties : ours .«data_fmt» ≡ formatOf theirs
