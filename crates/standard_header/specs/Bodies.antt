@@ -1,5 +1,5 @@
 -- What stands in the body of a message is the specification's message of its type. Assumes nothing.
-use Prim.Native.Nat.{ℕ}
+use Prim.Native.Nat.{ℕ, _≤_}
 use mathlib.Core.Path.{_≡_, refl, sym}
 use mathlib.Core.Logic.{_⊎_}
 use mathlib.Core.Bool.{Bool, true, false}
@@ -26,6 +26,8 @@ use Rattle.ohdr_attribute.specs.Attributes.{attribute}
 use Rattle.ohdr_message.specs.Entries.{body, plainBody, layoutBody, attributeBody}
 use Rattle.standard.specs.Tie.{Stood, Every}
 use Rattle.standard.specs.Dataspaces.{dataspaceMessage}
+use Rattle.standard.specs.Datatypes.{datatypeMessage}
+use Rattle.standard.specs.Attributes.{attributeMessage}
 use Rattle.standard.specs.Infos.{linkInfoMessage, groupInfoMessage, attributeInfoMessage}
 use Rattle.standard.specs.Storage.{fillValueOld, fillValueMessage, dataLayout3, filterPipelineMessage}
 use Rattle.standard_messages.specs.Dataspaces.{SameDataspace, dataspace-tied}
@@ -33,29 +35,36 @@ use Rattle.standard_messages.specs.Infos.{SameLinkInfo, link-info-tied, SameGro
 use Rattle.standard_messages.specs.Layouts.{fill-value-old-tied, SameLayout, data-layout-tied}
 use Rattle.standard_messages.specs.Fills.{ValidFill, FillDiffers, fill-value-tied}
 use Rattle.standard_messages.specs.Filters.{ValidPipeline, PipelineDiffers, filter-pipeline-tied}
+use Rattle.standard_datatype.specs.Differences.{TypeDiffers}
+use Rattle.standard_datatype.specs.Same.{SameType}
+use Rattle.standard_datatype.specs.Ties.{datatype-tied}
+use Rattle.standard_attribute.specs.Differences.{AttributeDiffers}
+use Rattle.standard_attribute.specs.Same.{SameAttribute}
+use Rattle.standard_attribute.specs.Ties.{attribute-tied}
 
 -- the types whose messages are read in place; 16 is the continuation
 abbrev pub readTypes : List ℕ
 readTypes = 1 ∷ 2 ∷ 3 ∷ 4 ∷ 5 ∷ 8 ∷ 10 ∷ 11 ∷ 12 ∷ 21 ∷ []
 
--- over what is known of a datatype and of an attribute that stands at a position
-module _ (file : List ℕ) (s : State) (TypeIs : ℕ → DataType → Type 0) (AttributeIs : ℕ → Attribute → Type 0) where
+-- over a file, the widths, and the longest name of a member that the specification's formats are asked for, which is 4,095 bytes or more
+module _ (file : List ℕ) (s : State) (longest : ℕ) where
   -- BodyIs b type kept: at b stands the specification's message of this type, and what is kept of it is what it says; or a listed difference
   -- applies. Of the types that are not read nothing is kept (entry 15).
   pub data BodyIs (b : ℕ) : ℕ → Kept → Type 0 where
     dataspace : (q : ℕ) (d : DataSpace) → Stood SameDataspace (dataspaceMessage (s .«size_of_lengths»)) file b q d → BodyIs b 1 (messages.dataSpace d)
     link-info : (q : ℕ) (l : LinkInfo) → Stood SameLinkInfo (linkInfoMessage (s .«size_of_offsets»)) file b q l → BodyIs b 2 (messages.linkInfo l)
-    datatype : (t : DataType) → TypeIs b t → BodyIs b 3 (messages.dataType t)
+    datatype : (q : ℕ) (t : DataType) → TypeDiffers longest file b ⊎ Stood SameType (datatypeMessage longest typeLevels) file b q t → BodyIs b 3 (messages.dataType t)
     fill-value-old : (q : ℕ) → Stood {A = Unit {0}} (λ _ _. Unit {0}) fillValueOld file b q tt → BodyIs b 4 messages.nothing
     fill-value : (q : ℕ) → FillDiffers file b ⊎ Stood {A = Unit {0}} (λ _ x. ValidFill x) fillValueMessage file b q tt → BodyIs b 5 messages.nothing
     data-layout : (q : ℕ) (p : Part) → Stood (SameLayout s) (dataLayout3 (s .«size_of_offsets») (s .«size_of_lengths»)) file b q p → BodyIs b 8 (messages.dataLayout p)
     group-info : (q : ℕ) (g : GroupInfo) → Stood SameGroupInfo groupInfoMessage file b q g → BodyIs b 10 (messages.groupInfo g)
     filter-pipeline : (q : ℕ) → PipelineDiffers file b ⊎ Stood {A = Unit {0}} (λ _ x. ValidPipeline x) filterPipelineMessage file b q tt → BodyIs b 11 messages.nothing
-    attribute-message : (a : Attribute) → AttributeIs b a → BodyIs b 12 (messages.attribute a)
+    attribute-message : (q : ℕ) (a : Attribute) → AttributeDiffers file s longest b ⊎ Stood (SameAttribute file) (attributeMessage longest typeLevels (s .«size_of_lengths»)) file b q a
+        → BodyIs b 12 (messages.attribute a)
     attribute-info : (q : ℕ) (a : AttributeInfo) → Stood SameAttributeInfo (attributeInfoMessage (s .«size_of_offsets»)) file b q a → BodyIs b 21 (messages.attributeInfo a)
     not-read : {type : ℕ} → Every (λ n. type ≡ n → ⊥) readTypes → BodyIs b type messages.nothing
 
-  module _ (type-is : (p q : ℕ) (t : DataType) → Stands file (dataType typeLevels) p q t → TypeIs p t) (attribute-is : (p q : ℕ) (a : Attribute) → Stands file (attribute s) p q a → AttributeIs p a) where
+  module _ (enough : 4095 ≤ longest) where
     -- by whether the type is n
     by-type : {P : Type 0} (type n p q : ℕ) (k : Kept) (X Y : Format Kept) → Stands file (pick (eqb type n) X Y) p q k → (type ≡ n → Stands file X p q k → P) → ((type ≡ n → ⊥) → Stands file Y p q k → P) → P
     by-type {P} type n p q k X Y h f g = go (eqb type n) refl h
@@ -75,7 +84,7 @@ module _ (file : List ℕ) (s : State) (TypeIs : ℕ → DataType → Type 0) (A
     plain-is type p q k e8 e12 h =
         by-type type 1 p q k _ _ h (one (dataSpace s) messages.dataSpace 1 type p q k (λ m a i. dataspace m a (dataspace-tied s .ties file p m a i))) (λ e1 h.
         by-type type 2 p q k _ _ h (one (linkInfo s) messages.linkInfo 2 type p q k (λ m a i. link-info m a (link-info-tied s .ties file p m a i))) (λ e2 h.
-        by-type type 3 p q k _ _ h (one (dataType typeLevels) messages.dataType 3 type p q k (λ m a i. datatype a (type-is p m a i))) (λ e3 h.
+        by-type type 3 p q k _ _ h (one (dataType typeLevels) messages.dataType 3 type p q k (λ m a i. datatype m a (datatype-tied longest enough typeLevels .ties file p m a i))) (λ e3 h.
         by-type type 4 p q k _ _ h (one fillOld (λ _. messages.nothing) 4 type p q k (λ m a i. fill-value-old m (fill-value-old-tied .ties file p m a i))) (λ e4 h.
         by-type type 5 p q k _ _ h (one fill (λ _. messages.nothing) 5 type p q k (λ m a i. fill-value m (fill-value-tied .ties file p m a i))) (λ e5 h.
         by-type type 10 p q k _ _ h (one groupInfo messages.groupInfo 10 type p q k (λ m a i. group-info m a (group-info-tied .ties file p m a i))) (λ e10 h.
@@ -87,5 +96,5 @@ module _ (file : List ℕ) (s : State) (TypeIs : ℕ → DataType → Type 0) (A
     unfolding body layoutBody attributeBody
     body-is type p q k h =
         by-type type 8 p q k _ _ h (one (dataLayout s) messages.dataLayout 8 type p q k (λ m a i. data-layout m a (data-layout-tied s .ties file p m a i))) (λ e8 h.
-        by-type type 12 p q k _ _ h (one (attribute s) messages.attribute 12 type p q k (λ m a i. attribute-message a (attribute-is p m a i))) (λ e12 h.
+        by-type type 12 p q k _ _ h (one (attribute s) messages.attribute 12 type p q k (λ m a i. attribute-message m a (attribute-tied file s longest enough p m a i))) (λ e12 h.
         plain-is type p q k e8 e12 h))
