@@ -1,3 +1,4 @@
 pub mod Prefixes
 pub mod Bodies
 pub mod Entries
+pub mod Chunks
