@@ -2,3 +2,4 @@ pub mod Prefixes
 pub mod Bodies
 pub mod Entries
 pub mod Chunks
+pub mod Readings
