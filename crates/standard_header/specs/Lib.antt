@@ -3,3 +3,4 @@ pub mod Bodies
 pub mod Entries
 pub mod Chunks
 pub mod Readings
+pub mod Winning
