@@ -11,12 +11,6 @@ use Rattle.format.specs.Format.{Format, done, bind, Stands, found, read}
 use Rattle.format.specs.Laws.{complete}
 use Rattle.format.specs.Standing.{stands-bind}
 use Rattle.records.specs.Defaults.{defaultDataSpace, defaultLinkInfo, defaultGroupInfo, defaultAttributeInfo, defaultDataType}
-use Rattle.records.specs.declared.Part.{Part}
-use Rattle.records.specs.declared.DataSpace.{DataSpace}
-use Rattle.records.specs.declared.LinkInfo.{LinkInfo}
-use Rattle.records.specs.declared.GroupInfo.{GroupInfo}
-use Rattle.records.specs.declared.AttributeInfo.{AttributeInfo}
-use Rattle.records.specs.declared.DataType.{DataType}
 use Rattle.parser.specs.declared.State.{State}
 use Rattle.grammar.specs.Message.{Kept, Message}
 use Rattle.grammar.specs.Message as messages
@@ -32,17 +26,7 @@ use Rattle.ohdr_message.specs.Entered.{Bodied}
 use Rattle.data_object_records.specs.Headers.{Wins, win, winsAfter, winsOf, defaults, HeaderReading}
 use Rattle.data_object_records.specs.Winners.{valueOr}
 use Rattle.data_object_records.specs.WinnerLaws.{typeOf, typed, Won, all-bodied, space-won, type-won, link-won, group-won, info-won, data-won}
-use Rattle.standard.specs.Tie.{Stood}
-use Rattle.standard.specs.Dataspaces.{dataspaceMessage}
-use Rattle.standard.specs.Datatypes.{datatypeMessage}
-use Rattle.standard.specs.Infos.{linkInfoMessage, groupInfoMessage, attributeInfoMessage}
-use Rattle.standard.specs.Storage.{dataLayout3}
-use Rattle.standard_messages.specs.Dataspaces.{SameDataspace, dataspace-tied}
-use Rattle.standard_messages.specs.Infos.{SameLinkInfo, link-info-tied, SameGroupInfo, group-info-tied, SameAttributeInfo, attribute-info-tied}
-use Rattle.standard_messages.specs.Layouts.{SameLayout, data-layout-tied}
-use Rattle.standard_datatype.specs.Differences.{TypeDiffers}
-use Rattle.standard_datatype.specs.Same.{SameType}
-use Rattle.standard_datatype.specs.Ties.{datatype-tied}
+use Rattle.standard_header.specs.Bodies.{SpaceAt, space-at, LinkInfoAt, link-info-at, TypeAt, type-at, LayoutAt, layout-at, GroupInfoAt, group-info-at, AttributeInfoAt, attribute-info-at}
 
 -- no message of a type
 abbrev pub NoneOf : ℕ → List Message → Type 0
@@ -92,44 +76,25 @@ module _ (file : List ℕ) (s : State) where
       more (inl l) = inl (before l)
       more (inr z) = by-type (eqb (m .type) n) refl (z .0) (z .1)
 
-  -- what the body of a message of each of the six types is
-  abbrev pub SpaceAt : ℕ → DataSpace → Type 0
-  SpaceAt b d = (q : ℕ) × Stood SameDataspace (dataspaceMessage (s .«size_of_lengths»)) file b q d
-
-  abbrev pub LinkInfoAt : ℕ → LinkInfo → Type 0
-  LinkInfoAt b l = (q : ℕ) × Stood SameLinkInfo (linkInfoMessage (s .«size_of_offsets»)) file b q l
-
-  abbrev pub TypeAt : ℕ → ℕ → DataType → Type 0
-  TypeAt longest b t = (q : ℕ) × (TypeDiffers longest file b ⊎ Stood SameType (datatypeMessage longest typeLevels) file b q t)
-
-  abbrev pub LayoutAt : ℕ → Part → Type 0
-  LayoutAt b p = (q : ℕ) × Stood (SameLayout s) (dataLayout3 (s .«size_of_offsets») (s .«size_of_lengths»)) file b q p
-
-  abbrev pub GroupInfoAt : ℕ → GroupInfo → Type 0
-  GroupInfoAt b g = (q : ℕ) × Stood SameGroupInfo groupInfoMessage file b q g
-
-  abbrev pub AttributeInfoAt : ℕ → AttributeInfo → Type 0
-  AttributeInfoAt b a = (q : ℕ) × Stood SameAttributeInfo (attributeInfoMessage (s .«size_of_offsets»)) file b q a
-
   -- the records that a header with these messages gives
   pub record WinsAre (longest : ℕ) (ms : List Message) (w : Wins) : Type 0 where
-    pub dataspace : Given 1 SpaceAt defaultDataSpace (w .ds) ms
-    pub link-info : Given 2 LinkInfoAt defaultLinkInfo (w .li) ms
-    pub datatype : Given 3 (TypeAt longest) defaultDataType (w .dt) ms
-    pub data-layout : Given 8 LayoutAt emptyPart (w .«data») ms
-    pub group-info : Given 10 GroupInfoAt defaultGroupInfo (w .gi) ms
-    pub attribute-info : Given 21 AttributeInfoAt defaultAttributeInfo (w .ai) ms
+    pub dataspace : Given 1 (SpaceAt file s) defaultDataSpace (w .ds) ms
+    pub link-info : Given 2 (LinkInfoAt file s) defaultLinkInfo (w .li) ms
+    pub datatype : Given 3 (TypeAt file longest) defaultDataType (w .dt) ms
+    pub data-layout : Given 8 (LayoutAt file s) emptyPart (w .«data») ms
+    pub group-info : Given 10 (GroupInfoAt file) defaultGroupInfo (w .gi) ms
+    pub attribute-info : Given 21 (AttributeInfoAt file s) defaultAttributeInfo (w .ai) ms
 
   pub wins-are : (longest : ℕ) → 4095 ≤ longest → (ms : List Message) → All (Bodied file s) ms → WinsAre longest ms (winsOf ms)
   unfolding body plainBody layoutBody
   wins-are longest enough ms b =
       record {
-        dataspace = given-after 1 (dataSpace s) messages.dataSpace SpaceAt defaultDataSpace (λ w. w .ds) (space-won file s) refl (λ p q a h. (q, dataspace-tied s .ties file p q a h)) ms b defaults;
-        link-info = given-after 2 (linkInfo s) messages.linkInfo LinkInfoAt defaultLinkInfo (λ w. w .li) (link-won file s) refl (λ p q a h. (q, link-info-tied s .ties file p q a h)) ms b defaults;
-        datatype = given-after 3 (dataType typeLevels) messages.dataType (TypeAt longest) defaultDataType (λ w. w .dt) (type-won file s) refl (λ p q a h. (q, datatype-tied longest enough typeLevels .ties file p q a h)) ms b defaults;
-        data-layout = given-after 8 (dataLayout s) messages.dataLayout LayoutAt emptyPart (λ w. w .«data») (data-won file s) refl (λ p q a h. (q, data-layout-tied s .ties file p q a h)) ms b defaults;
-        group-info = given-after 10 groupInfo messages.groupInfo GroupInfoAt defaultGroupInfo (λ w. w .gi) (group-won file s) refl (λ p q a h. (q, group-info-tied .ties file p q a h)) ms b defaults;
-        attribute-info = given-after 21 (attributeInfo s) messages.attributeInfo AttributeInfoAt defaultAttributeInfo (λ w. w .ai) (info-won file s) refl (λ p q a h. (q, attribute-info-tied s .ties file p q a h)) ms b defaults;
+        dataspace = given-after 1 (dataSpace s) messages.dataSpace (SpaceAt file s) defaultDataSpace (λ w. w .ds) (space-won file s) refl (space-at file s) ms b defaults;
+        link-info = given-after 2 (linkInfo s) messages.linkInfo (LinkInfoAt file s) defaultLinkInfo (λ w. w .li) (link-won file s) refl (link-info-at file s) ms b defaults;
+        datatype = given-after 3 (dataType typeLevels) messages.dataType (TypeAt file longest) defaultDataType (λ w. w .dt) (type-won file s) refl (type-at file longest enough) ms b defaults;
+        data-layout = given-after 8 (dataLayout s) messages.dataLayout (LayoutAt file s) emptyPart (λ w. w .«data») (data-won file s) refl (layout-at file s) ms b defaults;
+        group-info = given-after 10 groupInfo messages.groupInfo (GroupInfoAt file) defaultGroupInfo (λ w. w .gi) (group-won file s) refl (group-info-at file) ms b defaults;
+        attribute-info = given-after 21 (attributeInfo s) messages.attributeInfo (AttributeInfoAt file s) defaultAttributeInfo (λ w. w .ai) (info-won file s) refl (attribute-info-at file s) ms b defaults;
       }
 
   pub reading-wins : (longest : ℕ) → 4095 ≤ longest → {at after : ℕ} {xs : List Item} → HeaderReading file s at after xs → WinsAre longest (messagesOf xs) (winsOf (messagesOf xs))
