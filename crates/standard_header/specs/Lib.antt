@@ -4,3 +4,4 @@ pub mod Entries
 pub mod Chunks
 pub mod Readings
 pub mod Winning
+pub mod Handed
