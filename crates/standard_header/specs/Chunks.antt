@@ -54,7 +54,7 @@ module _ (file : List ℕ) (s : State) (longest header-flags : ℕ) where
   -- a message of a reading: the entry that it stands in, and the message of its type in its body
   pub record MessageIs (p q : ℕ) (m : Message) : Type 0 where
     pub in-entry : MessageEntry file s header-flags p q m
-    pub body-of : BodyIs file s longest (m .body) (m .type) (m .kept)
+    pub body-of : BodyIs file s longest (m .body) (in-entry .fields-end) (m .type) (m .kept)
 
   -- what an entry of a reading holds: a message; or a continuation, which leads to a block
   abbrev pub HeldIs : ℕ → ℕ → Held → Type 0

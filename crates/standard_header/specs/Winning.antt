@@ -34,24 +34,24 @@ NoneOf n [] = Unit {0}
 NoneOf n (m ∷ ms) = (m .type ≡ n → ⊥) × NoneOf n ms
 
 -- the last message of a type is there, and of its body and the record X holds
-pub data LastOf {A : Type 0} (n : ℕ) (X : ℕ → A → Type 0) (a : A) : List Message → Type 0 where
-  last : {m : Message} {ms : List Message} → m .type ≡ n → NoneOf n ms → X (m .body) a → LastOf n X a (m ∷ ms)
+pub data LastOf {A : Type 0} (n : ℕ) (X : ℕ → ℕ → A → Type 0) (a : A) : List Message → Type 0 where
+  last : {m : Message} {ms : List Message} → m .type ≡ n → NoneOf n ms → (q : ℕ) → X (m .body) q a → LastOf n X a (m ∷ ms)
   before : {m : Message} {ms : List Message} → LastOf n X a ms → LastOf n X a (m ∷ ms)
 
 -- a record that is handed out: that of the last message of its type, or its default where there is none (entries 80 and 81)
-abbrev pub Given : {A : Type 0} → ℕ → (ℕ → A → Type 0) → A → A → List Message → Type 0
+abbrev pub Given : {A : Type 0} → ℕ → (ℕ → ℕ → A → Type 0) → A → A → List Message → Type 0
 Given n X a₀ a ms = LastOf n X a ms ⊎ (NoneOf n ms × (a ≡ a₀))
 
 module _ (file : List ℕ) (s : State) where
   -- a record of a message that stands
-  value-is : {A : Type 0} (F : Format A) (con : A → Kept) (n : ℕ) (X : ℕ → A → Type 0) (a₀ : A) → body s n ≡ bind F (λ a. done (con a)) → ((p q : ℕ) (a : A) → Stands file F p q a → X p a)
-      → (m : Message) → Bodied file s m → m .type ≡ n → X (m .body) (valueOr a₀ (read file F (m .body)))
+  value-is : {A : Type 0} (F : Format A) (con : A → Kept) (n : ℕ) (X : ℕ → ℕ → A → Type 0) (a₀ : A) → body s n ≡ bind F (λ a. done (con a)) → ((p q : ℕ) (a : A) → Stands file F p q a → X p q a)
+      → (m : Message) → Bodied file s m → m .type ≡ n → (q : ℕ) × X (m .body) q (valueOr a₀ (read file F (m .body)))
   value-is F con n X a₀ d t m b e =
       let h : Stands file (bind F (λ a. done (con a))) (m .body) (b .upto) (m .kept) = rw (sym d, sym e) (b .stands) in
       let w = stands-bind file F (λ a. done (con a)) (m .body) (b .upto) (m .kept) h in
-      rw (complete file F (m .body) (w .0) (w .1) (w .2)) (t (m .body) (w .0) (w .1) (w .2))
+      (w .0, rw (complete file F (m .body) (w .0) (w .1) (w .2)) (t (m .body) (w .0) (w .1) (w .2)))
 
-  given-after : {A : Type 0} (n : ℕ) (F : Format A) (con : A → Kept) (X : ℕ → A → Type 0) (a₀ : A) (f : Wins → A) → Won file s n F a₀ f → body s n ≡ bind F (λ a. done (con a)) → ((p q : ℕ) (a : A) → Stands file F p q a → X p a)
+  given-after : {A : Type 0} (n : ℕ) (F : Format A) (con : A → Kept) (X : ℕ → ℕ → A → Type 0) (a₀ : A) (f : Wins → A) → Won file s n F a₀ f → body s n ≡ bind F (λ a. done (con a)) → ((p q : ℕ) (a : A) → Stands file F p q a → X p q a)
       → (ms : List Message) → All (Bodied file s) ms → (w : Wins) → Given n X (f w) (f (winsAfter w ms)) ms
   given-after n F con X a₀ f v d t [] b w = inr (tt, refl)
   given-after n F con X a₀ f v d t (m ∷ ms) b w = more (given-after n F con X a₀ f v d t ms (b .1) (win (m .kept) w))
@@ -66,8 +66,9 @@ module _ (file : List ℕ) (s : State) where
       by-type : (q : Bool) → eqb (m .type) n ≡ q → NoneOf n ms → f (winsAfter (win (m .kept) w) ms) ≡ f (win (m .kept) w) → Given n X (f w) (f (winsAfter (win (m .kept) w) ms)) (m ∷ ms)
       by-type true q none e =
           let i = eqb-true (m .type) n q in
-          let x : X (m .body) (f (win (m .kept) w)) = rw (v .here m (b .0) i w) at (value-is F con n X a₀ d t m (b .0) i) in
-          inl (last {m = m} i none (rw e x))
+          let y = value-is F con n X a₀ d t m (b .0) i in
+          let x : X (m .body) (y .0) (f (win (m .kept) w)) = rw (v .here m (b .0) i w) at (y .1) in
+          inl (last {m = m} i none (y .0) (rw e x))
       by-type false q none e =
           let i = eqb-false (m .type) n q in
           inr ((i, none), e ∙ v .apart (m .kept) (other i) w)
