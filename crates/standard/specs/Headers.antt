@@ -1,6 +1,5 @@
 -- IV.A.1.b, version 2 object headers, and IV.A.2.q, their continuation. Assumes nothing: these are definitions.
 use Prim.Native.Nat.{ℕ, _+_, _*_, _%_}
-use mathlib.Core.Bool.{Bool}
 use lib.Dec.{eqb}
 use Rattle.format.specs.Bits.{bit}
 use Rattle.format.specs.Format.{Format, done, number, bind, pick}

@@ -1,6 +1,5 @@
 -- IV.A.2.c, link info; IV.A.2.k, group info; IV.A.2.v, attribute info. Assumes nothing: these are definitions.
 use Prim.Native.Nat.{ℕ}
-use mathlib.Core.Bool.{Bool}
 use lib.Dec.{eqb}
 use Rattle.format.specs.Bits.{bit}
 use Rattle.format.specs.Format.{Format, done, number, bind}

@@ -10,3 +10,4 @@ pub mod Storage
 pub mod Datatypes
 pub mod DatatypeBounds
 pub mod Attributes
+pub mod Examples

@@ -1,14 +1,14 @@
 -- Wherever one format stands another stands over the same bytes, with a value that is related to its value: one law for each way in
 -- which formats are put together. Assumes nothing.
 use Prim.Native.Nat.{ℕ, zero, suc, _+_, _*_, _≤_}
-use mathlib.Core.Path.{_≡_, refl, sym, ap, _∙_}
+use mathlib.Core.Path.{_≡_, refl}
 use mathlib.Core.Logic.{_⊎_, inl, inr}
 use mathlib.Core.Bool.{Bool, true, false}
 use mathlib.Core.List.{List, [], _∷_}
 use native.Mathlib.Omega.{arith}
 use lib.ListN.{length}
 use Rattle.format.specs.Bytes.{le}
-use Rattle.format.specs.Format.{Format, done, refuse, number, skip, bytes, name, text, here, there, attempt, Stands, read, found, bind, times, check, pick, nothing}
+use Rattle.format.specs.Format.{Format, done, refuse, number, skip, there, Stands, bind, times, check, pick, nothing}
 use Rattle.format.specs.Laws.{sound, complete}
 use Rattle.format.specs.Steps.{read-bind}
 use Rattle.format.specs.Standing.{stands-bind, stands-check}
@@ -56,31 +56,12 @@ module _ {A B : Type 0} {R : A → B → Type 0} where
   pub tied-number : {w : ℕ} {f : ℕ → Format A} {g : ℕ → Format B} → ((n : ℕ) → Tied R (f n) (g n)) → Tied R (number w f) (number w g)
   tied-number {w = w} t = record { ties = λ s p q a h. onward (t (le s p w) .ties s (p + w) q a (h .1)) (λ b i. (h .0, i)) }
 
-  -- bytes that one side passes over and the other reads
+  -- bytes that both pass over, and that ours passes over and the other reads
   pub tied-skip : {n : ℕ} {F : Format A} {G : Format B} → Tied R F G → Tied R (skip n F) (skip n G)
   tied-skip {n = n} t = record { ties = λ s p q a h. onward (t .ties s (p + n) q a (h .1)) (λ b i. (h .0, i)) }
 
-  pub tied-bytes : {n : ℕ} {F : Format A} {G : Format B} → Tied R F G → Tied R (bytes n F) (bytes n G)
-  tied-bytes {n = n} t = record { ties = λ s p q a h. onward (t .ties s (p + n) q a (h .1)) (λ b i. (h .0, i)) }
-
-  pub tied-skip-bytes : {n : ℕ} {F : Format A} {G : Format B} → Tied R F G → Tied R (skip n F) (bytes n G)
-  tied-skip-bytes {n = n} t = record { ties = λ s p q a h. onward (t .ties s (p + n) q a (h .1)) (λ b i. (h .0, i)) }
-
   pub tied-skip-number : {w : ℕ} {F : Format A} {g : ℕ → Format B} → ((n : ℕ) → Tied R F (g n)) → Tied R (skip w F) (number w g)
   tied-skip-number {w = w} t = record { ties = λ s p q a h. onward (t (le s p w) .ties s (p + w) q a (h .1)) (λ b i. (h .0, i)) }
-
-  pub tied-number-skip : {w : ℕ} {f : ℕ → Format A} {G : Format B} → ((n : ℕ) → Tied R (f n) G) → Tied R (number w f) (skip w G)
-  tied-number-skip {w = w} t = record { ties = λ s p q a h. onward (t (le s p w) .ties s (p + w) q a (h .1)) (λ b i. (h .0, i)) }
-
-  -- a position on one side or on both
-  pub tied-here : {f : ℕ → Format A} {g : ℕ → Format B} → ((p : ℕ) → Tied R (f p) (g p)) → Tied R (here f) (here g)
-  tied-here t = record { ties = λ s p q a h. onward (t p .ties s p q a h) (λ b i. i) }
-
-  pub tied-here-left : {f : ℕ → Format A} {G : Format B} → ((p : ℕ) → Tied R (f p) G) → Tied R (here f) G
-  tied-here-left t = record { ties = λ s p q a h. onward (t p .ties s p q a h) (λ b i. i) }
-
-  pub tied-here-right : {F : Format A} {g : ℕ → Format B} → ((p : ℕ) → Tied R F (g p)) → Tied R F (here g)
-  tied-here-right t = record { ties = λ s p q a h. onward (t p .ties s p q a h) (λ b i. i) }
 
   -- one side has a test more: the rest is given that it holds, or it is shown to hold
   pub tied-check : (test : Bool) (n : ℕ) {F : Format A} {G : Format B} → (test ≡ true → Tied R F G) → Tied R (check test n F) G
@@ -98,12 +79,6 @@ module _ {A B : Type 0} {R : A → B → Type 0} where
   pub tied-pick-left : (test : Bool) {F F′ : Format A} {G : Format B} → (test ≡ true → Tied R F G) → (test ≡ false → Tied R F′ G) → Tied R (pick test F F′) G
   tied-pick-left true t f = t refl
   tied-pick-left false t f = f refl
-
-  pub tied-pick-yes : (test : Bool) {F : Format A} {G : Format B} (G′ : Format B) → test ≡ true → Tied R F G → Tied R F (pick test G G′)
-  tied-pick-yes test G′ e t = rw e t
-
-  pub tied-pick-no : (test : Bool) {F : Format A} (G : Format B) {G′ : Format B} → test ≡ false → Tied R F G′ → Tied R F (pick test G G′)
-  tied-pick-no test G e t = rw e t
 
   -- what is refused stands nowhere
   pub tied-refuse : {n : ℕ} {G : Format B} → Tied R (refuse n) G
@@ -142,7 +117,7 @@ module _ {A B : Type 0} {R : A → B → Type 0} where
   pub tied-there-left : {C : Type 0} {o : ℕ} {F : Format C} {k : C → Format A} {G : Format B} → ((c : C) → Tied R (k c) G) → Tied R (there o F k) G
   tied-there-left t = record { ties = λ s p q a h. t (h .1) .ties s p q a (h .3) }
 
-  -- bytes that are passed over, in two pieces and in one
+  -- bytes that are passed over in two pieces
   pub tied-split : (m n : ℕ) {F : Format A} {G : Format B} → Tied R (skip m (skip n F)) G → Tied R (skip (m + n) F) G
   tied-split m n {F = F} t =
       record {
@@ -151,16 +126,6 @@ module _ {A B : Type 0} {R : A → B → Type 0} where
             let e : p + (m + n) ≡ p + m + n = omega arith in
             let i : Stands s F (p + m + n) q a = rw e at (h .1) in
             t .ties s p q a (omega (arith, h .0), (omega (arith, h .0), i));
-      }
-
-  pub tied-join : (m n : ℕ) {F : Format A} {G : Format B} → Tied R (skip (m + n) F) G → Tied R (skip m (skip n F)) G
-  tied-join m n {F = F} t =
-      record {
-        ties =
-            λ s p q a h.
-            let e : p + m + n ≡ p + (m + n) = omega arith in
-            let i : Stands s F (p + (m + n)) q a = rw e at (h .1 .1) in
-            t .ties s p q a (omega (arith, h .1 .0), i);
       }
 
   -- nothing is passed over
@@ -181,14 +146,6 @@ module _ {A B : Type 0} {R : A → B → Type 0} where
       go : (s : List ℕ) (p q : ℕ) (a : A) → D s p ⊎ Stood R G s p q a → E s p ⊎ Stood R G s p q a
       go s p q a (inl d) = inl (f s p d)
       go s p q a (inr x) = inr x
-
-  -- no difference is listed
-  pub tied-none : {F : Format A} {G : Format B} → TiedBut (λ s p. ⊥) R F G → Tied R F G
-  tied-none {G = G} t = record { ties = λ s p q a h. go s p q a (t .ties s p q a h) }
-    where
-      go : (s : List ℕ) (p q : ℕ) (a : A) → ⊥ ⊎ Stood R G s p q a → Stood R G s p q a
-      go s p q a (inl d) = absurd d
-      go s p q a (inr x) = x
 
   -- bytes that ours passes over, and the other hands out
   pub tied-raw : {n : ℕ} {F : Format A} {g : Bytes → Format B} → ((x : Bytes) → x .length ≡ n → Tied R F (g x)) → Tied R (skip n F) (bind (raw n) g)

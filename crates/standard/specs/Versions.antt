@@ -1,13 +1,12 @@
 -- A message whose tables are told apart by the version that stands first in each. Assumes nothing.
 use Prim.Native.Nat.{ℕ, _+_, _≤_}
-use mathlib.Core.Path.{_≡_, refl}
-use mathlib.Core.Bool.{Bool, true, false}
+use mathlib.Core.Path.{refl}
 use mathlib.Core.List.{List}
 use lib.ListN.{length}
 use lib.Dec.{eqb}
 use borrow.Author.Tests.{eq-eqb}
 use Rattle.format.specs.Bytes.{le}
-use Rattle.format.specs.Format.{Format, done, number, here, there, bind, check, pick, Stands}
+use Rattle.format.specs.Format.{Format, done, number, here, there, bind, Stands}
 use Rattle.standard.specs.Fields.{only}
 use Rattle.standard.specs.Tie.{Tied, Stood, onward, bind-stands}
 

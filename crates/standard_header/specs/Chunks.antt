@@ -1,6 +1,6 @@
 -- The chunks of a header as they are read are those of the specification, or a listed difference applies in them. Assumes nothing.
-use Prim.Native.Nat.{ℕ, suc, _+_, _-_, _≤_, _<_}
-use mathlib.Core.Path.{_≡_, refl, sym, subst}
+use Prim.Native.Nat.{ℕ, _+_, _-_, _≤_, _<_}
+use mathlib.Core.Path.{_≡_, refl, sym}
 use mathlib.Core.Logic.{_⊎_, inl, inr}
 use mathlib.Core.Bool.{Bool, true, false}
 use mathlib.Core.List.{List, [], _∷_, _++_}
@@ -10,11 +10,11 @@ use lib.Dec.{eqb}
 use Rattle.format.specs.Bits.{bit}
 use Rattle.format.specs.Bytes.{le}
 use Rattle.format.specs.BytesLaws.{by-le}
-use Rattle.format.specs.Format.{Format, pick, nothing, Stands}
+use Rattle.format.specs.Format.{pick, nothing, Stands}
 use Rattle.format.specs.Standing.{stands-check}
 use Rattle.parser.specs.declared.State.{State}
 use Rattle.grammar.specs.Message.{Message, Held, message, continuation}
-use Rattle.grammar.specs.Grammar.{ochk, Item, Run, ends, goes, Entry, is-message, is-continuation, Block, is-block}
+use Rattle.grammar.specs.Grammar.{ochk, Item, Run, ends, goes, is-message, is-continuation, is-block}
 use Rattle.ohdr_message.specs.Entries.{prefixSize}
 use Rattle.ohdr_message.specs.Entered.{continued}
 use Rattle.data_object_records.specs.Headers.{StandsEntry}

@@ -1,6 +1,6 @@
 -- An entry as it is read is a header message of the specification, unless its fields use more bytes than its size. Assumes nothing.
 use Prim.Native.Nat.{ℕ, _+_, _-_, _≤_, _<_}
-use mathlib.Core.Path.{_≡_, refl, sym, ap, _∙_}
+use mathlib.Core.Path.{_≡_, refl, sym}
 use mathlib.Core.Logic.{_⊎_, inl, inr}
 use mathlib.Core.Bool.{Bool, true, false}
 use mathlib.Core.List.{List}
@@ -8,20 +8,18 @@ use native.Mathlib.Omega.{arith}
 use lib.ListN.{length}
 use lib.Dec.{eqb}
 use borrow.Author.Tests.{eqb-true}
-use Rattle.format.specs.BytesLaws.{by-le}
-use Rattle.format.specs.Format.{Format, done, skip, here, bind, pick, Stands}
+use Rattle.format.specs.Format.{pick, Stands}
 use Rattle.format.specs.Standing.{stands-bind}
 use Rattle.parser.specs.declared.State.{State}
-use Rattle.grammar.specs.Message.{Kept, Message, Held, message, continuation}
-use Rattle.ohdr_info.specs.declared.Continuation.{Continuation}
+use Rattle.grammar.specs.Message.{Message, Held, message, continuation}
 use Rattle.ohdr_info.specs.Info as info
 use Rattle.ohdr_message.specs.declared.Prefix.{Prefix}
 use Rattle.ohdr_message.specs.Entries.{prefix, body, messageHeld, continuationHeld, closed, entry}
 use Rattle.standard.specs.Fields.{Bytes, raw}
 use Rattle.standard.specs.Tie.{Stood, bind-stands}
-use Rattle.standard.specs.Headers.{MessagePrefix, messagePrefix, HeaderMessage, headerMessage, ContinuationMessage, continuationMessage}
+use Rattle.standard.specs.Headers.{MessagePrefix, messagePrefix, HeaderMessage, headerMessage, continuationMessage}
 use Rattle.standard_messages.specs.Infos.{SameContinuation, continuation-tied}
-use Rattle.standard_header.specs.Prefixes.{SamePrefix, prefix-tied}
+use Rattle.standard_header.specs.Prefixes.{prefix-tied}
 
 module _ (file : List ℕ) (s : State) (header-flags : ℕ) where
   -- what an entry from p to q is made of: a prefix up to b, fields up to c, and the rest of its size

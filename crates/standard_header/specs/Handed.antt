@@ -6,7 +6,7 @@ use Rattle.parser.specs.declared.State.{State}
 use Rattle.grammar.specs.Grammar.{Item}
 use Rattle.grammar.specs.Table.{messagesOf}
 use Rattle.grammar.specs.Each.{All}
-use Rattle.data_object_records.specs.Headers.{Wins, winsOf, stateFor}
+use Rattle.data_object_records.specs.Headers.{Wins, stateFor}
 use Rattle.data_object_records.specs.HeaderLaws.{tableOf}
 use Rattle.data_object.specs.Decoded.{Accepted}
 use Rattle.standard_header.specs.Readings.{HeaderIs, reading-is, RowIs, each-message}

@@ -1,6 +1,6 @@
 -- A header that has a reading is the specification's, message by message; or a listed difference applies. Assumes nothing.
 use Prim.Native.Nat.{ℕ, _+_, _≤_, max}
-use mathlib.Core.Path.{_≡_, refl, sym, ap, _∙_}
+use mathlib.Core.Path.{_≡_}
 use mathlib.Core.Logic.{_⊎_, inl, inr}
 use mathlib.Core.List.{List, [], _∷_}
 use native.Mathlib.Omega.{arith}
@@ -14,7 +14,7 @@ use Rattle.grammar.specs.Each.{All}
 use Rattle.data_object_records.specs.declared.HeaderFields.{HeaderFields}
 use Rattle.data_object_records.specs.Headers.{HeaderReading}
 use Rattle.standard.specs.Tie.{Every}
-use Rattle.standard.specs.Headers.{ObjectHeaderPrefix, objectHeaderPrefix, HeaderMessage}
+use Rattle.standard.specs.Headers.{ObjectHeaderPrefix, objectHeaderPrefix}
 use Rattle.standard.specs.Chunks.{ObjectHeader}
 use Rattle.standard_header.specs.Prefixes.{SameHeader, header-tied}
 use Rattle.standard_header.specs.Chunks.{ChunkDiffers, ChunkIs, ItemIs, HeldIs, MessageIs, run-is}

@@ -1,13 +1,12 @@
 -- The records that a header gives are the specification's messages, each the last of its type. Assumes nothing.
 use Prim.Native.Nat.{ℕ, _≤_}
-use mathlib.Core.Path.{_≡_, refl, sym, ap, _∙_}
+use mathlib.Core.Path.{_≡_, refl, sym, _∙_}
 use mathlib.Core.Logic.{_⊎_, inl, inr}
 use mathlib.Core.Bool.{Bool, true, false}
 use mathlib.Core.List.{List, [], _∷_}
-use native.Mathlib.Omega.{arith}
 use lib.Dec.{eqb}
 use borrow.Author.Tests.{eqb-true, eqb-false}
-use Rattle.format.specs.Format.{Format, done, bind, Stands, found, read}
+use Rattle.format.specs.Format.{Format, done, bind, Stands, read}
 use Rattle.format.specs.Laws.{complete}
 use Rattle.format.specs.Standing.{stands-bind}
 use Rattle.records.specs.Defaults.{defaultDataSpace, defaultLinkInfo, defaultGroupInfo, defaultAttributeInfo, defaultDataType}

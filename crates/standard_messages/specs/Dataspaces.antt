@@ -1,5 +1,5 @@
 -- The dataspace as it is read is that of the specification. Assumes nothing.
-use Prim.Native.Nat.{ℕ, zero, suc, _+_, _-_, _≤_, _<_}
+use Prim.Native.Nat.{ℕ, zero, suc, _+_, _≤_, _<_}
 use mathlib.Core.Path.{_≡_, refl, sym, ap, _∙_}
 use mathlib.Core.Bool.{Bool, true, false, not, _&&_, _||_}
 use mathlib.Core.List.{List, [], _∷_, _++_}
@@ -10,18 +10,16 @@ use lib.Dec.{eqb, leb}
 use borrow.Author.Tests.{eqb-true, eq-eqb, ne-eqb, leb-true, not-true}
 use Rattle.format.specs.Bits.{bit}
 use Rattle.format.specs.Bytes.{le}
-use Rattle.format.specs.Format.{Format, done, refuse, number, skip, bind, check, pick}
+use Rattle.format.specs.Format.{Format, done, refuse, number, bind, check, pick}
 use Rattle.records.specs.Defaults.{noDimensions}
-use Rattle.records.specs.declared.OptionU8.{OptionU8}
 use Rattle.records.specs.declared.OptionU8.the-variants as options8
 use Rattle.records.specs.declared.Dimensions.{Dimensions}
 use Rattle.records.specs.declared.DataSpace.{DataSpace}
 use Rattle.parser.specs.declared.State.{State}
-use Rattle.ohdr_dataspace.specs.declared.DataSpaceHeader.{DataSpaceHeader}
-use Rattle.ohdr_dataspace.specs.DataSpaces.{unlimited, dimension, dimensionsFrom, dimensions, kind, headerFlags, headerSizes, dataSpaceHeader, maximumSizes, dataSpaceOf, dataSpaceSizes, dataSpace}
+use Rattle.ohdr_dataspace.specs.DataSpaces.{unlimited, dimension, dimensionsFrom, dimensions, kind, headerFlags, headerSizes, dataSpaceHeader, maximumSizes, dataSpaceSizes, dataSpace}
 use Rattle.standard.specs.Fields.{only, many}
 use Rattle.standard.specs.Tie.{Tied, tied-done, tied-number, tied-skip, tied-split, tied-check, tied-only, tied-bind, tied-more, tied-after, tied-bind-check}
-use Rattle.standard.specs.Versions.{byVersion, marked, tied-by-version, tied-marked}
+use Rattle.standard.specs.Versions.{marked, tied-by-version, tied-marked}
 use Rattle.standard.specs.Dataspaces.{Stored, not-stored, stored, storedSizes, Dataspace1, dataspace1, Dataspace2, dataspace2, ValidDataspace2, Dataspace, version-1, version-2, dataspaceMessage}
 
 -- the sizes of the dimensions

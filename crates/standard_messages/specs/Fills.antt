@@ -1,6 +1,6 @@
 -- The fill value message as it is read is that of the specification, but for one case. Assumes nothing.
 use Prim.Native.Nat.{ℕ, _+_, _/_, _%_, _≤_, _<_}
-use mathlib.Core.Path.{_≡_, refl, sym, _∙_}
+use mathlib.Core.Path.{_≡_, refl}
 use mathlib.Core.Logic.{_⊎_, inl, inr}
 use mathlib.Core.Bool.{Bool, true, false, not, _&&_, _||_}
 use mathlib.Core.List.{List}
@@ -10,13 +10,13 @@ use lib.Dec.{eqb, leb, ltb}
 use borrow.Author.Tests.{eq-eqb, ne-eqb, eqb-true, eqb-false, leb-true, lt-ltb}
 use Rattle.format.specs.Bits.{bit}
 use Rattle.format.specs.Bytes.{le}
-use Rattle.format.specs.Format.{Format, done, refuse, number, bind, pick, nothing, Stands}
+use Rattle.format.specs.Format.{done, refuse, number, pick, nothing, Stands}
 use Rattle.format.specs.Standing.{stands-check}
 use Rattle.ohdr_storage.specs.Storage.{fillValue, fill12, fill3, fill}
 use Rattle.standard.specs.Fields.{only}
-use Rattle.standard.specs.Tie.{Tied, TiedBut, Stood, tied-done, tied-number, tied-check, tied-only, tied-bind, tied-pick, tied-raw, tied-more, bind-stands}
-use Rattle.standard.specs.Versions.{byVersion, version-stands, marked, marked-stands, tied-marked}
-use Rattle.standard.specs.Storage.{SizeAndFillValue, not-present, sizeAndFillValue, FillFields12, fillFields12, FillValue12, fillValue12, ValidFillValue12, FillValue3, fillValue3, ValidFillValue3, FillValue, versions-1-and-2, version-3, fillValueMessage}
+use Rattle.standard.specs.Tie.{Tied, TiedBut, Stood, tied-done, tied-number, tied-check, tied-only, tied-raw, tied-more, bind-stands}
+use Rattle.standard.specs.Versions.{version-stands, marked, marked-stands, tied-marked}
+use Rattle.standard.specs.Storage.{sizeAndFillValue, FillFields12, fillFields12, FillValue12, fillValue12, ValidFillValue12, FillValue3, fillValue3, ValidFillValue3, FillValue, versions-1-and-2, version-3, fillValueMessage}
 
 -- what is not tested of version 3 (entry 65)
 pub record AlikeFill3 (x : FillValue3) : Type 0 where

@@ -1,21 +1,21 @@
 -- The filter pipeline as it is read is that of the specification, but for names. Assumes nothing.
-use Prim.Native.Nat.{ℕ, _+_, _-_, _*_, _/_, _%_, _^_, _≤_, _<_}
-use mathlib.Core.Path.{_≡_, refl, sym, ap, _∙_}
+use Prim.Native.Nat.{ℕ, _+_, _-_, _*_, _/_, _%_, _≤_, _<_}
+use mathlib.Core.Path.{_≡_, refl, ap}
 use mathlib.Core.Logic.{_⊎_, inl, inr}
 use mathlib.Core.Bool.{Bool, true, false, _||_}
 use mathlib.Core.List.{List}
 use native.Mathlib.Omega.{arith}
 use lib.ListN.{length, getD}
 use lib.Dec.{eqb, leb, ltb}
-use borrow.Author.Tests.{eqb-true, eqb-false, leb-true, leb-false, lt-leb, ltb-true}
+use borrow.Author.Tests.{eqb-true, eqb-false, lt-leb, ltb-true}
 use Rattle.format.specs.Bytes.{le}
 use Rattle.format.specs.BytesLaws.{by-le, le-split}
-use Rattle.format.specs.Format.{Format, done, refuse, number, skip, bind, times, check, pick, nothing, Stands}
+use Rattle.format.specs.Format.{done, number, skip, bind, times, check, pick, nothing, Stands}
 use Rattle.format.specs.Standing.{stands-bind, stands-check}
 use Rattle.ohdr_storage.specs.Storage.{paddedName, filter1, filter2, filterOf, reserved, filterPipeline}
-use Rattle.standard.specs.Fields.{Optional, absent, present, Bytes, optional, raw, many}
-use Rattle.standard.specs.Tie.{Tied, TiedBut, Stood, Among, Every, but-times, tied-done, tied-number, tied-raw, tied-skip-many, tied-skip-none, tied-skip-number, tied-more, onward, bind-stands}
-use Rattle.standard.specs.Versions.{byVersion, version-stands, marked, marked-stands, tied-marked}
+use Rattle.standard.specs.Fields.{absent, present, optional, raw, many}
+use Rattle.standard.specs.Tie.{Tied, TiedBut, Stood, Among, Every, but-times, tied-done, tied-raw, tied-skip-many, tied-skip-none, tied-skip-number, tied-more, onward, bind-stands}
+use Rattle.standard.specs.Versions.{version-stands, marked, marked-stands, tied-marked}
 use Rattle.standard.specs.Storage.{FilterFields1, filterFields1, FilterDescription1, filterDescription1, ValidFilterDescription1, PipelineFields1, pipelineFields1, FilterPipeline1, filterPipeline1, ValidFilterPipeline1}
 use Rattle.standard.specs.Storage.{FilterFields2, filterFields2, orNone, FilterDescription2, filterDescription2, ValidFilterDescription2, PipelineFields2, pipelineFields2, FilterPipeline2, filterPipeline2, ValidFilterPipeline2}
 use Rattle.standard.specs.Storage.{FilterPipeline, version-1, version-2, filterPipelineMessage}

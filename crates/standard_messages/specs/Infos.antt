@@ -1,10 +1,9 @@
 -- Link info, group info, attribute info and the continuation as they are read are those of the specification. Assumes nothing.
-use Prim.Native.Nat.{ℕ, _+_}
+use Prim.Native.Nat.{_+_}
 use mathlib.Core.Path.{_≡_, refl}
-use mathlib.Core.Bool.{Bool, true, _&&_}
+use mathlib.Core.Bool.{_&&_}
 use lib.Dec.{eqb, leb}
 use Rattle.format.specs.Bits.{bit}
-use Rattle.format.specs.Format.{Format}
 use Rattle.records.specs.declared.LinkInfo.{LinkInfo}
 use Rattle.records.specs.declared.GroupInfo.{GroupInfo}
 use Rattle.records.specs.declared.AttributeInfo.{AttributeInfo}

@@ -1,19 +1,19 @@
 -- The old fill value and the data layout as they are read are those of the specification. Assumes nothing.
 use Prim.Native.Nat.{ℕ, _<_}
 use mathlib.Core.Path.{_≡_, refl, sym, _∙_}
-use mathlib.Core.Bool.{Bool, true, false}
+use mathlib.Core.Bool.{true, false}
 use native.Mathlib.Omega.{arith}
 use lib.Dec.{eqb, ltb}
 use borrow.Author.Tests.{eq-eqb, ne-eqb}
-use Rattle.format.specs.Format.{Format, refuse, pick}
+use Rattle.format.specs.Format.{refuse, pick}
 use Rattle.records.specs.declared.Part.{Part}
 use Rattle.parser.specs.declared.State.{State}
 use Rattle.parser.specs.States.{addressValid}
 use Rattle.ohdr_storage.specs.Storage.{fillOld, fillValue, emptyPart, partOf, compact, contiguous, dataLayout}
-use Rattle.standard.specs.Tie.{Tied, tied-done, tied-number, tied-check, tied-only, tied-bind, tied-pick, tied-pick-left, tied-there-left, tied-refuse, tied-raw}
+use Rattle.standard.specs.Tie.{Tied, tied-done, tied-number, tied-check, tied-only, tied-pick, tied-pick-left, tied-there-left, tied-refuse, tied-raw}
 use Rattle.standard.specs.Versions.{marked, tied-marked}
 use Rattle.standard.specs.Storage as standard
-use Rattle.standard.specs.Storage.{FillValueOld, fillValueOld, CompactStorage, compactStorage, ContiguousStorage, contiguousStorage, LayoutProperties, layoutProperties, DataLayout3, dataLayout3}
+use Rattle.standard.specs.Storage.{fillValueOld, compactStorage, ContiguousStorage, contiguousStorage, LayoutProperties, layoutProperties, DataLayout3, dataLayout3}
 
 -- IV.A.2.e: nothing of it is handed out
 pub fill-value-old-tied : Tied (λ _ _. Unit {0}) fillOld fillValueOld

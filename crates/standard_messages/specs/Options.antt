@@ -2,14 +2,13 @@
 use Prim.Native.Nat.{ℕ}
 use mathlib.Core.Path.{_≡_, refl}
 use mathlib.Core.Bool.{Bool, true, false}
-use Rattle.format.specs.Format.{Format, pick}
 use Rattle.records.specs.declared.OptionU16.{OptionU16}
 use Rattle.records.specs.declared.OptionU16.the-variants as options16
 use Rattle.records.specs.declared.OptionU64.{OptionU64}
 use Rattle.records.specs.declared.OptionU64.the-variants as options64
 use Rattle.ohdr_info.specs.Info.{cond, some16, some64}
 use Rattle.standard.specs.Fields.{Optional, absent, present, optional}
-use Rattle.standard.specs.Tie.{Tied, tied-done, tied-number, tied-pick}
+use Rattle.standard.specs.Tie.{Tied, tied-done, tied-number}
 
 -- the same field, missing or there
 abbrev pub option16 : Optional → OptionU16
