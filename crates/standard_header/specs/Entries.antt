@@ -7,7 +7,7 @@ use mathlib.Core.List.{List}
 use native.Mathlib.Omega.{arith}
 use lib.ListN.{length}
 use lib.Dec.{eqb}
-use borrow.Author.Tests.{eqb-true}
+use borrow.Author.Tests.{eqb-true, eqb-false}
 use Rattle.format.specs.Format.{pick, Stands}
 use Rattle.format.specs.Standing.{stands-bind}
 use Rattle.parser.specs.declared.State.{State}
@@ -28,7 +28,7 @@ module _ (file : List ℕ) (s : State) (header-flags : ℕ) where
     b : ℕ
     prefix-stands : Stands file (prefix header-flags) p b ours
     c : ℕ
-    held : ((ours .kind ≡ 16) × Stands file (continuationHeld s ours b) b c v) ⊎ Stands file (messageHeld s ours b) b c v
+    held : ((ours .kind ≡ 16) × Stands file (continuationHeld s ours b) b c v) ⊎ ((ours .kind ≡ 16 → ⊥) × Stands file (messageHeld s ours b) b c v)
     room : c + (b + ours .size - c) ≤ length file
     close : c + (b + ours .size - c) ≡ q
 
@@ -45,7 +45,7 @@ module _ (file : List ℕ) (s : State) (header-flags : ℕ) where
       go x b i false e h =
           let w = stands-bind file (messageHeld s x b) _ b q v h in
           let k : Stands file (messageHeld s x b) b (w .0) v = rw (w .3 .1 .1) at (w .2) in
-          record { ours = x; b = b; prefix-stands = i; c = w .0; held = inr k; room = w .3 .0; close = w .3 .1 .0 }
+          record { ours = x; b = b; prefix-stands = i; c = w .0; held = inr (eqb-false (x .kind) 16 e, k); room = w .3 .0; close = w .3 .1 .0 }
 
   -- EntryIs p q b c type size flags: an entry from p to q with its body at b, whose fields end at c, is the specification's header message
   pub record EntryIs (p q b c type size flags : ℕ) : Type 0 where
@@ -90,6 +90,7 @@ module _ (file : List ℕ) (s : State) (header-flags : ℕ) where
     pub fields-end : ℕ
     pub entry-is : EntryIs p q (m .body) fields-end (m .type) (m .size) (m .flags)
     pub fields-stand : Stands file (body s (m .type)) (m .body) fields-end (m .kept)
+    pub no-continuation : m .type ≡ 16 → ⊥
 
   -- a continuation and its entry
   pub record ContinuationEntry (p q offset length : ℕ) : Type 0 where
@@ -108,13 +109,13 @@ module _ (file : List ℕ) (s : State) (header-flags : ℕ) where
   unfolding messageHeld continuationHeld
   message-entry p q m h = let w = parts-of p q (message m) h in go w (w .held)
     where
-      go : (w : Parts p q (message m)) → ((w .ours .kind ≡ 16) × Stands file (continuationHeld s (w .ours) (w .b)) (w .b) (w .c) (message m)) ⊎ Stands file (messageHeld s (w .ours) (w .b)) (w .b) (w .c) (message m) → MessageEntry p q m
+      go : (w : Parts p q (message m)) → ((w .ours .kind ≡ 16) × Stands file (continuationHeld s (w .ours) (w .b)) (w .b) (w .c) (message m)) ⊎ ((w .ours .kind ≡ 16 → ⊥) × Stands file (messageHeld s (w .ours) (w .b)) (w .b) (w .c) (message m)) → MessageEntry p q m
       go w (inl x) = let u = stands-bind file (info.continuation s) _ (w .b) (w .c) (message m) (x .1) in neither-both (sym (u .3 .1))
       go w (inr x) =
-          let u = stands-bind file (body s (w .ours .kind)) _ (w .b) (w .c) (message m) x in
+          let u = stands-bind file (body s (w .ours .kind)) _ (w .b) (w .c) (message m) (x .1) in
           let n : Message = record { type = w .ours .kind; flags = w .ours .flags; size = w .ours .size; body = w .b; kept = u .1 } in
           let f : Stands file (body s (w .ours .kind)) (w .b) (w .c) (u .1) = rw (u .3 .0) at (u .2) in
-          let r : MessageEntry p q n = record { fields-end = w .c; entry-is = entry-of p q (w .b) (w .c) (w .ours) (w .prefix-stands) (w .room) (w .close); fields-stand = f } in
+          let r : MessageEntry p q n = record { fields-end = w .c; entry-is = entry-of p q (w .b) (w .c) (w .ours) (w .prefix-stands) (w .room) (w .close); fields-stand = f; no-continuation = x .0 } in
           let e : n ≡ m = cc (u .3 .1) in
           rw (← e) r
 
@@ -125,8 +126,8 @@ module _ (file : List ℕ) (s : State) (header-flags : ℕ) where
   unfolding messageHeld continuationHeld
   continuation-entry p q o l h = let w = parts-of p q (continuation o l) h in go w (w .held)
     where
-      go : (w : Parts p q (continuation o l)) → ((w .ours .kind ≡ 16) × Stands file (continuationHeld s (w .ours) (w .b)) (w .b) (w .c) (continuation o l)) ⊎ Stands file (messageHeld s (w .ours) (w .b)) (w .b) (w .c) (continuation o l) → ContinuationEntry p q o l
-      go w (inr x) = let u = stands-bind file (body s (w .ours .kind)) _ (w .b) (w .c) (continuation o l) x in neither-both (u .3 .1)
+      go : (w : Parts p q (continuation o l)) → ((w .ours .kind ≡ 16) × Stands file (continuationHeld s (w .ours) (w .b)) (w .b) (w .c) (continuation o l)) ⊎ ((w .ours .kind ≡ 16 → ⊥) × Stands file (messageHeld s (w .ours) (w .b)) (w .b) (w .c) (continuation o l)) → ContinuationEntry p q o l
+      go w (inr x) = let u = stands-bind file (body s (w .ours .kind)) _ (w .b) (w .c) (continuation o l) (x .1) in neither-both (u .3 .1)
       go w (inl x) =
           let u = stands-bind file (info.continuation s) _ (w .b) (w .c) (continuation o l) (x .1) in
           let f : Stands file (info.continuation s) (w .b) (w .c) (u .1) = rw (u .3 .0) at (u .2) in

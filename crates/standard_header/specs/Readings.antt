@@ -14,12 +14,19 @@ use Rattle.grammar.specs.Each.{All}
 use Rattle.data_object_records.specs.declared.HeaderFields.{HeaderFields}
 use Rattle.data_object_records.specs.Headers.{HeaderReading}
 use Rattle.standard.specs.Tie.{Every}
-use Rattle.standard.specs.Headers.{ObjectHeaderPrefix, objectHeaderPrefix}
+use Rattle.standard.specs.Headers.{ObjectHeaderPrefix, objectHeaderPrefix, HeaderMessage}
 use Rattle.standard.specs.Chunks.{ObjectHeader}
 use Rattle.standard_header.specs.Prefixes.{SameHeader, header-tied}
-use Rattle.standard_header.specs.Chunks.{ChunkDiffers, ChunkIs, ItemIs, HeldIs, MessageIs, run-is}
+use Rattle.standard_header.specs.Chunks.{SameEntries, ChunkDiffers, ChunkIs, ItemIs, HeldIs, MessageIs, run-is}
 
 module _ (file : List ℕ) (s : State) (longest : ℕ) where
+  -- the header at a position as a whole: its messages, in its first chunk and in its blocks, are the entries, one by one; and where it ends
+  pub record WholeIs (at after : ℕ) (xs : List Item) : Type 0 where
+    pub messages : List HeaderMessage
+    pub header : ObjectHeader file (s .«size_of_offsets») (s .«size_of_lengths») at messages
+    pub same : SameEntries xs messages
+    pub end : after ≡ header .start + header .prefix .size-of-chunk-0 + 4
+
   -- A header at a position, up to the next, with its entries and those of its blocks in the reading's order.
   pub record HeaderIs (at after : ℕ) (xs : List Item) : Type 0 where
     pub fields : HeaderFields
@@ -27,8 +34,8 @@ module _ (file : List ℕ) (s : State) (longest : ℕ) where
     pub start : ℕ
     pub prefix-stands : Stands file objectHeaderPrefix at start prefix
     pub prefix-same : SameHeader fields prefix
-    -- the header is the specification's, and ends where that ends; or a difference applies in its first chunk
-    pub whole : ChunkDiffers file s longest (prefix .flags) start (start + prefix .size-of-chunk-0) ⊎ (ObjectHeader file at × (after ≡ start + prefix .size-of-chunk-0 + 4))
+    -- as a whole, unless a difference applies in its first chunk or in a block
+    pub whole : ChunkDiffers file s longest (prefix .flags) start (start + prefix .size-of-chunk-0) ⊎ WholeIs at after xs
     -- each entry is the specification's header message
     pub entries : Every (ItemIs file s longest (prefix .flags)) xs
 
@@ -49,7 +56,7 @@ module _ (file : List ℕ) (s : State) (longest : ℕ) where
   -- what is read, in the specification's words
   header-of : (at start after last : ℕ) (xs : List Item) (f : HeaderFields) (x : ObjectHeaderPrefix) → Stands file objectHeaderPrefix at start x → SameHeader f x
       → after ≡ max last (start + f .size) + 4 → after ≤ length file
-      → ChunkDiffers file s longest (f .flags) start (start + f .size) ⊎ ChunkIs file s longest (f .flags) start (start + f .size) last
+      → ChunkDiffers file s longest (f .flags) start (start + f .size) ⊎ ChunkIs file s longest (f .flags) start (start + f .size) last xs
       → Every (ItemIs file s longest (f .flags)) xs → HeaderIs at after xs
   header-of at start after last xs f x h r e i c m =
       record {
@@ -62,13 +69,13 @@ module _ (file : List ℕ) (s : State) (longest : ℕ) where
         entries = rw (r .flags) at m;
       }
     where
-      go : ChunkDiffers file s longest (x .flags) start (start + x .size-of-chunk-0) ⊎ ChunkIs file s longest (x .flags) start (start + x .size-of-chunk-0) last
+      go : ChunkDiffers file s longest (x .flags) start (start + x .size-of-chunk-0) ⊎ ChunkIs file s longest (x .flags) start (start + x .size-of-chunk-0) last xs
           → after ≡ max last (start + x .size-of-chunk-0) + 4
-          → ChunkDiffers file s longest (x .flags) start (start + x .size-of-chunk-0) ⊎ (ObjectHeader file at × (after ≡ start + x .size-of-chunk-0 + 4))
+          → ChunkDiffers file s longest (x .flags) start (start + x .size-of-chunk-0) ⊎ WholeIs at after xs
       go (inl d) k = inl d
       go (inr y) k =
           let l : after ≡ start + x .size-of-chunk-0 + 4 = omega (arith, y .inside) in
-          inr (record { prefix = x; start = start; prefix-stands = h; messages = y .messages; chunk = y .chunk; checksum = omega arith }, l)
+          inr (record { messages = y .messages; header = record { prefix = x; start = start; prefix-stands = h; chunk = y .chunk; checksum = omega arith }; same = y .same; end = l })
 
   module _ (enough : 4095 ≤ longest) where
     pub reading-is : {at after : ℕ} {xs : List Item} → HeaderReading file s at after xs → HeaderIs at after xs
