@@ -1,10 +1,10 @@
 -- The chunks of a header as they are read are those of the specification, message by message, or a listed difference applies in them.
 -- Entries are those of docs/DIFFERENCES.md, part one. Assumes nothing.
 use Prim.Native.Nat.{ℕ, _+_, _-_, _≤_, _<_}
-use mathlib.Core.Path.{_≡_, refl, sym, ap, subst, _∙_}
+use mathlib.Core.Path.{_≡_, refl, sym, _∙_}
 use mathlib.Core.Logic.{_⊎_, inl, inr}
 use mathlib.Core.Bool.{Bool, true, false}
-use mathlib.Core.List.{List, [], _∷_, _++_, append-assoc}
+use mathlib.Core.List.{List, [], _∷_, _++_}
 use native.Mathlib.Omega.{arith}
 use lib.ListN.{length}
 use lib.Dec.{eqb}
@@ -20,7 +20,7 @@ use Rattle.ohdr_message.specs.Entries.{prefixSize}
 use Rattle.ohdr_message.specs.Entered.{continued}
 use Rattle.data_object_records.specs.Headers.{StandsEntry}
 use Rattle.standard.specs.Tie.{Stood, Every}
-use Rattle.standard.specs.Headers.{HeaderMessage, headerMessage, ContinuationMessage, continuationMessage, continuationSignature}
+use Rattle.standard.specs.Headers.{HeaderMessage, headerMessage, continuationSignature}
 use Rattle.standard.specs.Chunks.{Messages, gap, next, ContinuationBlock, block}
 use Rattle.standard.specs.Chunks as standard
 use Rattle.standard_header.specs.Prefixes.{block-signature-tied}

@@ -6,6 +6,7 @@ use Rattle.parser.specs.declared.State.{State}
 use Rattle.grammar.specs.Grammar.{Item}
 use Rattle.grammar.specs.Table.{messagesOf}
 use Rattle.grammar.specs.Each.{All}
+use Rattle.data_object_records.specs.declared.HeaderFields.{HeaderFields}
 use Rattle.data_object_records.specs.Headers.{Wins, stateFor}
 use Rattle.data_object_records.specs.HeaderLaws.{tableOf}
 use Rattle.data_object.specs.Decoded.{Accepted}
@@ -22,8 +23,9 @@ module _ (file : List ℕ) (offsets lengths end at n longest : ℕ) where
   pub record Standard (after : ℕ) (wins : Wins) (t : List ℕ) : Type 0 where
     -- the entries of the header and of its blocks
     pub items : List Item
+    pub fields : HeaderFields
     -- the header's prefix, its chunks, and each entry
-    pub header : HeaderIs file state longest at after items
+    pub header : HeaderIs file state longest at after fields items
     -- each row: type, flags, size and body position are fields of the header message that stands there, and name and part those of its body
     pub rows : All (RowIs file state longest (header .prefix .flags)) (messagesOf items)
     pub table : t ≡ tableOf n items
@@ -36,6 +38,7 @@ module _ (file : List ℕ) (offsets lengths end at n longest : ℕ) where
       let h = reading-is file state longest enough (a .readable .within .reading) in
       record {
         items = a .items;
+        fields = a .readable .within .reading .fields;
         header = h;
         rows = each-message file state longest (h .prefix .flags) (a .items) (h .entries);
         table = a .table;

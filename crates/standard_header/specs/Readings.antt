@@ -27,9 +27,8 @@ module _ (file : List ℕ) (s : State) (longest : ℕ) where
     pub same : SameEntries xs messages
     pub end : after ≡ header .start + header .prefix .size-of-chunk-0 + 4
 
-  -- A header at a position, up to the next, with its entries and those of its blocks in the reading's order.
-  pub record HeaderIs (at after : ℕ) (xs : List Item) : Type 0 where
-    pub fields : HeaderFields
+  -- A header at a position, up to the next, with its fields, its entries and those of its blocks in the reading's order.
+  pub record HeaderIs (at after : ℕ) (fields : HeaderFields) (xs : List Item) : Type 0 where
     pub prefix : ObjectHeaderPrefix
     pub start : ℕ
     pub prefix-stands : Stands file objectHeaderPrefix at start prefix
@@ -57,10 +56,9 @@ module _ (file : List ℕ) (s : State) (longest : ℕ) where
   header-of : (at start after last : ℕ) (xs : List Item) (f : HeaderFields) (x : ObjectHeaderPrefix) → Stands file objectHeaderPrefix at start x → SameHeader f x
       → after ≡ max last (start + f .size) + 4 → after ≤ length file
       → ChunkDiffers file s longest (f .flags) start (start + f .size) ⊎ ChunkIs file s longest (f .flags) start (start + f .size) last xs
-      → Every (ItemIs file s longest (f .flags)) xs → HeaderIs at after xs
+      → Every (ItemIs file s longest (f .flags)) xs → HeaderIs at after f xs
   header-of at start after last xs f x h r e i c m =
       record {
-        fields = f;
         prefix = x;
         start = start;
         prefix-stands = h;
@@ -78,7 +76,7 @@ module _ (file : List ℕ) (s : State) (longest : ℕ) where
           inr (record { messages = y .messages; header = record { prefix = x; start = start; prefix-stands = h; chunk = y .chunk; checksum = omega arith }; same = y .same; end = l })
 
   module _ (enough : 4095 ≤ longest) where
-    pub reading-is : {at after : ℕ} {xs : List Item} → HeaderReading file s at after xs → HeaderIs at after xs
+    pub reading-is : {at after : ℕ} {xs : List Item} (h : HeaderReading file s at after xs) → HeaderIs at after (h .fields) xs
     reading-is {at} {after} {xs} h =
         let y = header-tied .ties file at (h .start) (h .fields) (h .head) in
         let r = run-is file s longest (h .fields .flags) enough (h .rest .run) in
