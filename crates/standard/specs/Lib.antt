@@ -4,5 +4,6 @@ pub mod TieMore
 pub mod Versions
 pub mod Datatypes
 pub mod DatatypeBounds
+pub mod DatatypeRules
 pub mod Dataspaces
 pub mod Attributes

@@ -1,3 +1,4 @@
 pub mod Differences
 pub mod Same
 pub mod Ties
+pub mod Rules

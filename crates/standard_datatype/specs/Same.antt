@@ -10,7 +10,8 @@ use Rattle.records.specs.declared.DataFormat.the-variants as formats
 use Rattle.records.specs.declared.OptionDataFormat.{OptionDataFormat}
 use Rattle.records.specs.declared.OptionDataFormat.the-variants as optionFormats
 use Rattle.records.specs.declared.DataType.{DataType}
-use Rattle.standard.specs.Datatypes.{DatatypeHeader, class, Datatype, datatype, headerOf, Properties, fixed-point, floating-point, no-properties, members, parent-type}
+use Rattle.standard.specs.Datatypes.{DatatypeHeader, class, Datatype, datatype, headerOf, Properties, fixed-point, floating-point, no-properties, members, parent-type, Members, no-members, version-1, version-3}
+use Rattle.standard.specs.DatatypeRules.{Each}
 
 -- the format of a number is that of the property fields; a variable-length type takes it of its parent type, and so on to the innermost
 abbrev mutual
@@ -31,6 +32,19 @@ abbrev mutual
 abbrev pub listSizeOf : DatatypeHeader → OptionU32
 listSizeOf h = pick (eqb (class h) 9) (options32.Some (h .size)) options32.None
 
+-- members are of version 3 alone (docs/DIFFERENCES.md, 37)
+abbrev pub OfVersion3 : Members → Type 0
+OfVersion3 no-members = Unit {0}
+OfVersion3 (version-1 m t rest) = ⊥
+OfVersion3 (version-3 m t rest) = OfVersion3 rest
+
+abbrev pub MembersOfVersion3 : DatatypeHeader → Properties → Type 0
+MembersOfVersion3 h (fixed-point f) = Unit {0}
+MembersOfVersion3 h (floating-point f) = Unit {0}
+MembersOfVersion3 h no-properties = Unit {0}
+MembersOfVersion3 h (members m) = OfVersion3 m
+MembersOfVersion3 h (parent-type t) = Unit {0}
+
 -- each field of the record is the field that the standard names
 pub record SameType (ours : DataType) (theirs : Datatype) : Type 0 where
   pub class-and-version : ours .«class_and_version» ≡ headerOf theirs .class-and-version
@@ -38,3 +52,5 @@ pub record SameType (ours : DataType) (theirs : Datatype) : Type 0 where
   pub size : ours .size ≡ headerOf theirs .size
   pub list-size : ours .«list_size» ≡ listSizeOf (headerOf theirs)
   pub properties : ours .«data_fmt» ≡ formatOf theirs
+  -- nothing is handed out of the members of a compound
+  pub members : Each MembersOfVersion3 theirs

@@ -27,7 +27,8 @@ use Rattle.standard.specs.Tie.{bind-stands, Stood, Tied, TiedBut, tied-done, ti
 use Rattle.standard.specs.TieMore.{but-map}
 use Rattle.standard.specs.Datatypes.{DatatypeHeader, datatypeHeader, class, version, memberCount, FixedPoint, fixedPoint, FloatingPoint, floatingPoint, terminated, Member3, member3, offsetBytes, Datatype, datatype, Properties, fixed-point, floating-point, no-properties, members, parent-type, Members, no-members, version-3, members1, members3, compound, properties, datatypeOf, datatypeMessage}
 use Rattle.standard_datatype.specs.Differences.{LongName, TypeDiffers, in-properties, PropertiesDiffer, members-of-version-1, compound-of-size-0, in-members, in-parent-type, MembersDiffer, long-name, in-member-type, in-later}
-use Rattle.standard_datatype.specs.Same.{formatOf, formatIn, listSizeOf, SameType}
+use Rattle.standard_datatype.specs.Same.{formatOf, formatIn, listSizeOf, OfVersion3, MembersOfVersion3, SameType}
+use Rattle.standard.specs.DatatypeRules.{Each, EachInside, EachMember}
 
 -- the header of the standard that has the fields of ours
 abbrev theHeader : DataTypeHeader → DatatypeHeader
@@ -45,13 +46,15 @@ header-tied =
     tied-number (λ cv. tied-check (knownType cv) 11 (λ k. tied-number (λ bits. tied-number (λ size. tied-check (ltb size 64) 11 (λ l.
     tied-done (record { same = refl; known = k; small = l }))))))
 
--- the properties of ours are those of the standard
-abbrev SameProperties : OptionDataFormat → Properties → Type 0
-SameProperties f p = f ≡ formatIn p
+-- the properties of ours are those of the standard, and members are of version 3
+record SameProperties (f : OptionDataFormat) (p : Properties) : Type 0 where
+  format : f ≡ formatIn p
+  outside : (h : DatatypeHeader) → MembersOfVersion3 h p
+  inside : EachInside MembersOfVersion3 p
 
 fixed-tied : Tied SameProperties fixedProperties (bind fixedPoint (λ f. done (fixed-point f)))
 unfolding fixedProperties fixedPoint bind
-fixed-tied = tied-number (λ o. tied-number (λ p. tied-done refl))
+fixed-tied = tied-number (λ o. tied-number (λ p. tied-done (record { format = refl; outside = λ _. tt; inside = tt })))
 
 -- the seven fields of a floating-point number
 abbrev theFloat : FloatProperties → FloatingPoint
@@ -72,7 +75,7 @@ float-fields-tied = tied-number (λ a. tied-number (λ b. tied-number (λ c. tie
 
 float-tied : Tied SameProperties floatFormat (bind floatingPoint (λ f. done (floating-point f)))
 unfolding floatFormat
-float-tied = tied-bind float-fields-tied (λ f g e. tied-check (ieee f) 11 (λ _. tied-done (ap (λ (x : FloatingPoint). formatIn (floating-point x)) e)))
+float-tied = tied-bind float-fields-tied (λ f g e. tied-check (ieee f) 11 (λ _. tied-done (record { format = ap (λ (x : FloatingPoint). formatIn (floating-point x)) e; outside = λ _. tt; inside = tt })))
 
 -- one of two tests has passed
 either : (a b : Bool) → (a || b) ≡ true → (a ≡ true) ⊎ (b ≡ true)
@@ -160,8 +163,10 @@ module _ (longest : ℕ) (wide : 4095 ≤ longest) where
   -- over what is tied of the types inside
   module _ (levels : ℕ) (types : TiedBut (λ s p. TypeDiffers longest s p) SameType (dataType levels) (datatypeMessage longest levels)) where
     -- of the members ours keeps nothing
-    abbrev NoFormat : OptionDataFormat → Members → Type 0
-    NoFormat f _ = f ≡ optionFormats.None
+    record NoFormat (f : OptionDataFormat) (m : Members) : Type 0 where
+      none : f ≡ optionFormats.None
+      outside : OfVersion3 m
+      inside : EachMember MembersOfVersion3 m
 
     abbrev ourMembers : ℕ → ℕ → Format OptionDataFormat
     ourMembers size n = times n (member 3 size (dataType levels)) plain
@@ -180,7 +185,7 @@ module _ (longest : ℕ) (wide : 4095 ≤ longest) where
     more-members size n s p m r q a (inl d) t y z = inl (long-name d)
     more-members size n s p m r q a (inr x) t (inl d) z = inl (in-member-type m (x .value) (x .stands) d)
     more-members size n s p m r q a (inr x) t (inr y) (inl d) = inl (in-later m r levels (x .value) (y .value) (x .stands) (y .stands) d)
-    more-members size n s p m r q a (inr x) t (inr y) (inr z) = inr (record { value = v; stands = stand; related = z .related })
+    more-members size n s p m r q a (inr x) t (inr y) (inr z) = inr (record { value = v; stands = stand; related = record { none = z .related .none; outside = z .related .outside; inside = (y .related .members, z .related .inside) } })
       where
         v : Members
         v = version-3 (x .value) (y .value) (z .value)
@@ -193,7 +198,7 @@ module _ (longest : ℕ) (wide : 4095 ≤ longest) where
 
     members-tied : (size : ℕ) → 0 < size → size < 64 → (n : ℕ) → TiedBut (λ s p. MembersDiffer longest s size n p) NoFormat (ourMembers size n) (theirMembers size n)
     unfolding times members3 plain member
-    members-tied size l u zero = but-tied (tied-done refl)
+    members-tied size l u zero = but-tied (tied-done (record { none = refl; outside = tt; inside = tt }))
     members-tied size l u (suc n) = next (members-tied size l u n)
       where
         next : TiedBut (λ s p. MembersDiffer longest s size n p) NoFormat (ourMembers size n) (theirMembers size n)
@@ -223,14 +228,14 @@ module _ (longest : ℕ) (wide : 4095 ≤ longest) where
     compound-none h e = rw e (go (eqb (h .«class_and_version» / 16) 1))
       where
         go : (t : Bool) → TiedBut (λ s p. PropertiesDiffer longest s (theHeader h) p) SameProperties (done optionFormats.None) (bind (pick t (done no-members) (done no-members)) (λ m. done (members m)))
-        go true = but-tied (tied-done refl)
-        go false = but-tied (tied-done refl)
+        go true = but-tied (tied-done (record { format = refl; outside = λ _. tt; inside = tt }))
+        go false = but-tied (tied-done (record { format = refl; outside = λ _. tt; inside = tt }))
 
     -- members of version 3, in a compound that has a size
     compound-some : (h : DataTypeHeader) → classOf (h .«class_and_version») ≡ 6 → versionOf (h .«class_and_version») ≡ 3 → 0 < h .size → h .size < 64 → CompoundTied h
     unfolding compound
     compound-some h c v l u =
-        rw v (but-more (λ s p d. in-members c v d) (but-map members (λ f m e. e) (members-tied (h .size) l u (h .«class_bit_field» % 65536))))
+        rw v (but-more (λ s p d. in-members c v d) (but-map members (λ f m e. record { format = e .none; outside = λ _. e .outside; inside = e .inside }) (members-tied (h .size) l u (h .«class_bit_field» % 65536))))
 
     compound-tied : (h : DataTypeHeader) → classOf (h .«class_and_version») ≡ 6 → (versionOf (h .«class_and_version») ≡ 1) ⊎ (versionOf (h .«class_and_version») ≡ 3) → h .size < 64 → CompoundTied h
     compound-tied h c v u = by-le 1 (h .«class_bit_field» % 65536) (λ n. go (λ e. omega arith) v) (λ n. compound-none h (omega arith))
@@ -242,7 +247,7 @@ module _ (longest : ℕ) (wide : 4095 ≤ longest) where
     list-tied : (h : DataTypeHeader) → classOf (h .«class_and_version») ≡ 9
         → TiedBut (λ s p. PropertiesDiffer longest s (theHeader h) p) SameProperties (listProperties (dataType levels)) (bind (datatypeMessage longest levels) (λ t. done (parent-type t)))
     unfolding listProperties
-    list-tied h c = but-more differs (but-bind types (λ a b e. but-tied {D = λ _ _. ⊥} (tied-done (e .properties))))
+    list-tied h c = but-more differs (but-bind types (λ a b e. but-tied {D = λ _ _. ⊥} (tied-done (record { format = e .properties; outside = λ _. tt; inside = e .members }))))
       where
         differs : (s : List ℕ) (p : ℕ) → Either (λ s p. TypeDiffers longest s p) (datatypeMessage longest levels) (λ _ _ _. ⊥) s p → PropertiesDiffer longest s (theHeader h) p
         differs s p (in-first d) = in-parent-type c d
@@ -264,9 +269,9 @@ module _ (longest : ℕ) (wide : 4095 ≤ longest) where
         by-class (classOf (h .«class_and_version»)) (known-class h k)
         (λ e. rw e (but-tied fixed-tied))
         (λ e. rw e (but-tied float-tied))
-        (λ e. rw e (but-tied (tied-done refl)))
+        (λ e. rw e (but-tied (tied-done (record { format = refl; outside = λ _. tt; inside = tt }))))
         (λ e. rw e (compound-tied h e (one-of (versionOf (h .«class_and_version»)) 1 3 (known-version h k)) (ltb-true (h .size) 64 l)))
-        (λ e. rw e (but-tied (tied-done refl)))
+        (λ e. rw e (but-tied (tied-done (record { format = refl; outside = λ _. tt; inside = tt }))))
         (λ e. rw e (list-tied h e))
 
     -- what follows the header
@@ -290,7 +295,7 @@ module _ (longest : ℕ) (wide : 4095 ≤ longest) where
       where
         same : (f : OptionDataFormat) (p : Properties) → SameProperties f p
             → SameType (record { «class_and_version» = h .«class_and_version»; «class_bit_field» = h .«class_bit_field»; size = h .size; «list_size» = listSize h; «data_fmt» = f }) (datatype (theHeader h) p)
-        same f p e = record { class-and-version = refl; class-bit-field = refl; size = refl; list-size = refl; properties = e }
+        same f p e = record { class-and-version = refl; class-bit-field = refl; size = refl; list-size = refl; properties = e .format; members = (e .outside (theHeader h), e .inside) }
 
         differs : (s : List ℕ) (p : ℕ) → Either (λ s p. PropertiesDiffer longest s (theHeader h) p) (properties longest (datatypeMessage longest levels) (theHeader h)) (λ _ _ _. ⊥) s p
             → PropertiesDiffer longest s (theHeader h) p
