@@ -7,3 +7,4 @@ pub mod DatatypeBounds
 pub mod DatatypeRules
 pub mod Dataspaces
 pub mod Attributes
+pub mod AttributeRules

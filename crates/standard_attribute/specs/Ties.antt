@@ -26,10 +26,13 @@ use Rattle.standard.specs.Fields.{Bytes, only, raw}
 use Rattle.standard.specs.Tie.{bind-stands, Stood, Tied, tied-done, tied-number, tied-check}
 use Rattle.standard.specs.Versions.{byVersion, marked, version-stands, marked-stands}
 use Rattle.standard.specs.Datatypes.{toMultipleOf8, class, headerOf}
+use Rattle.standard.specs.DatatypeRules.{Each}
+use Rattle.standard.specs.AttributeRules.{NullTerminated}
+use Rattle.standard_datatype.specs.Same.{MembersOfVersion3}
 use Rattle.standard.specs.Attributes.{Sizes1, sizes1, Sizes3, sizes3, Described, described, rawSize, Attribute1, attribute1, Attribute3, attribute3, Attribute, of-version-1, of-version-3, attributeMessage}
 use Rattle.standard_attribute.specs.Differences.{ContentsDiffer, no-reading, AttributeDiffers, padded-name, shared, in-version-1, in-version-3}
-use Rattle.standard_attribute.specs.Same.{Less, NullTerminated, SameValue, SameFields, SameAttribute}
-use Rattle.standard_attribute.specs.Contents.{Held, contents-tied}
+use Rattle.standard_attribute.specs.Same.{Less, SameValue, SameFields, SameAttribute}
+use Rattle.standard_attribute.specs.Contents.{padded-length, Held, contents-tied}
 
 -- what stands before the name, after the version
 abbrev ourFields : ℕ → Format AttributeFields
@@ -110,13 +113,14 @@ name-padding n = by-le n 8 (λ l. inr (omega arith)) (λ l. go (eqb (toMultipleO
     go true e l = let z = eqb-true (toMultipleOf8 n) 0 e in inr (omega arith)
     go false e l = inl (l, eqb-false (toMultipleOf8 n) 0 e)
 
--- a text that is null-terminated has the length of its name
+-- a name that is null-terminated has the length that is left without zeros at the end
 terminated-length : (s : List ℕ) (p m l n : ℕ) → Trimmed s p m l → NullTerminated s (record { position = p; length = m }) n → l ≡ n
-terminated-length s p m l n h i = by-le l n (λ a. by-le n l (λ b. omega arith) (λ b. absurd (i .name l b (h .zeros l (omega arith) (omega (arith, i .size)))))) (λ a. absurd (last (h .last) a))
-  where
-    last : (l ≡ 0) ⊎ (getD s (p + (l - 1)) 0 ≡ 0 → ⊥) → n < l → ⊥
-    last (inl e) a = omega arith
-    last (inr f) a = let e : l - 1 ≡ n = omega (arith, i .size, h .within) in f (rw e (i .terminator))
+terminated-length s p m l n h i =
+    padded-length s p m l n h (record {
+      within = omega (arith, i .size);
+      text = i .name;
+      zeros = λ j a b. let e : j ≡ n = omega (arith, i .size) in rw e (i .terminator);
+    })
 
 module _ (s : List ℕ) (state : State) (longest : ℕ) (wide : 4095 ≤ longest) where
   abbrev width : ℕ
@@ -134,12 +138,13 @@ module _ (s : List ℕ) (state : State) (longest : ℕ) (wide : 4095 ≤ longest
 
   -- the name and the value
   same-fields : (m n l : ℕ) (a : ours.Attribute) (c : Described) (d : Bytes) → Trimmed s m n l → a .name ≡ record { position = m; length = l }
-      → SameValue s (a .value) (class (headerOf (c .datatype))) (headerOf (c .datatype) .size) d → SameFields s a (record { position = m; length = n }) c d
-  same-fields m n l a c d h e v =
+      → SameValue s (a .value) (class (headerOf (c .datatype))) (headerOf (c .datatype) .size) d → Each MembersOfVersion3 (c .datatype) → SameFields s a (record { position = m; length = n }) c d
+  same-fields m n l a c d h e v k =
       let f : l ≡ a .name .length = ap (λ (x : Part). x .length) (sym e) in
       record {
         name = record { position = ap (λ (x : Part). x .position) e; length = rw f at h };
-        terminated = λ k i. sym f ∙ terminated-length s m n l k h i;
+        terminated = λ j i. sym f ∙ terminated-length s m n l j h i;
+        members = k;
         value = v;
       }
 
@@ -205,7 +210,7 @@ module _ (s : List ℕ) (state : State) (longest : ℕ) (wide : 4095 ≤ longest
         inr (record {
           value = of-version-1 v;
           stands = message1 p q v one e (rw (c .end) at (stands1 p m (c .upto) x (c .contents) h i (c .stands) (c .inside)));
-          related = same-fields m (x .name-size) l a (c .contents) (record { position = c .upto; length = rawSize (c .contents) }) t n (c .value);
+          related = same-fields m (x .name-size) l a (c .contents) (record { position = c .upto; length = rawSize (c .contents) }) t n (c .value) (c .members);
         })
       where
         v : Attribute1
@@ -230,7 +235,7 @@ module _ (s : List ℕ) (state : State) (longest : ℕ) (wide : 4095 ≤ longest
         inr (record {
           value = of-version-3 v;
           stands = message3 p q v one e (rw (c .end) at (stands3 p m (c .upto) x (c .contents) h f (t .inside) (c .stands) (c .inside)));
-          related = same-fields m (x .name-size) l a (c .contents) (record { position = c .upto; length = rawSize (c .contents) }) t n (c .value);
+          related = same-fields m (x .name-size) l a (c .contents) (record { position = c .upto; length = rawSize (c .contents) }) t n (c .value) (c .members);
         })
       where
         v : Attribute3

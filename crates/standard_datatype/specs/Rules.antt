@@ -1,9 +1,7 @@
 -- What the specification asks of the values of a datatype message holds of what is read, where no listed difference applies. Assumes nothing.
-use mathlib.Core.Path.{_≡_}
-use Rattle.records.specs.declared.DataType.{DataType}
 use Rattle.standard.specs.Datatypes.{DatatypeHeader, Datatype, datatype, Properties, fixed-point, floating-point, no-properties, members, parent-type, Members, no-members, version-1, version-3}
 use Rattle.standard.specs.DatatypeRules.{ValidClassBits, ValidNumber, ValidMembers, ValidMember1s, ValidMembers1, Each, EachInside, EachMember, ValidDatatype}
-use Rattle.standard_datatype.specs.Same.{OfVersion3, MembersOfVersion3, SameType}
+use Rattle.standard_datatype.specs.Same.{OfVersion3, MembersOfVersion3}
 
 -- what is not tested, by entries of docs/DIFFERENCES.md, part one
 pub record AlikeType (t : Datatype) : Type 0 where
@@ -43,11 +41,12 @@ members-valid h no-properties w = tt
 members-valid h (members m) w = none-of-version-1 m w
 members-valid h (parent-type t) w = tt
 
-pub datatype-valid : (ours : DataType) (theirs : Datatype) → SameType ours theirs → AlikeType theirs → ValidDatatype theirs
-datatype-valid ours theirs h a =
+-- `Each MembersOfVersion3` is proved of every datatype that is read: the field `members` of `SameType`
+pub datatype-valid : (t : Datatype) → Each MembersOfVersion3 t → AlikeType t → ValidDatatype t
+datatype-valid t h a =
     record {
       class-bits = a .class-bits;
       numbers = a .numbers;
       members = a .members;
-      members-of-version-1 = each MembersOfVersion3 ValidMembers1 members-valid theirs (h .members);
+      members-of-version-1 = each MembersOfVersion3 ValidMembers1 members-valid t h;
     }
