@@ -9,7 +9,7 @@ use Rattle.standard.specs.DatatypeRules.{ValidDatatype}
 use Rattle.standard.specs.Dataspaces.{ValidDataspace2, Dataspace, version-1, version-2}
 use Rattle.standard.specs.Attributes.{Described, Attribute1, Attribute3, Attribute, of-version-1, of-version-3}
 
--- Name Size: "the length of the attribute name in bytes including the null terminator": a name of n bytes and its terminator fill the field
+-- Name Size counts the null terminator: a name of n bytes and its terminator fill the field
 pub record NullTerminated (s : List ℕ) (field : Bytes) (n : ℕ) : Type 0 where
   pub size : field .length ≡ n + 1
   pub name : (i : ℕ) → i < n → getD s (field .position + i) 0 ≡ 0 → ⊥
