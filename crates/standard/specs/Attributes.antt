@@ -1,7 +1,7 @@
 -- IV.A.2.m, The Attribute Message: versions 1 and 3. Assumes nothing: these are definitions.
 -- Version 2 has a table too; nothing that is read is compared with it.
 use Prim.Native.Nat.{ℕ, _+_, _*_}
-use mathlib.Core.Bool.{Bool, not, _||_}
+use mathlib.Core.Bool.{not, _||_}
 use mathlib.Core.List.{List, [], _∷_}
 use lib.Dec.{eqb}
 use Rattle.format.specs.Bits.{bit}

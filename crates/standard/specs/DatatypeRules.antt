@@ -2,7 +2,7 @@
 -- definitions.
 use Prim.Native.Nat.{ℕ, _+_, _*_, _/_, _%_, _^_, _≤_}
 use mathlib.Core.Path.{_≡_}
-use Rattle.standard.specs.Datatypes.{DatatypeHeader, class, Member1, Member3, Datatype, datatype, headerOf, Properties, fixed-point, floating-point, no-properties, members, parent-type, Members, no-members, version-1, version-3}
+use Rattle.standard.specs.Datatypes.{DatatypeHeader, class, Member1, Datatype, datatype, headerOf, Properties, fixed-point, floating-point, no-properties, members, parent-type, Members, no-members, version-1, version-3}
 
 -- as many bits of a number as are said, from the given one on
 abbrev pub bits : ℕ → ℕ → ℕ → ℕ

@@ -2,7 +2,7 @@
 -- and variable-length 9. Assumes nothing: these are definitions.
 -- Versions 2 and 4 and the other classes have tables too; nothing that is read is compared with them.
 use Prim.Native.Nat.{ℕ, zero, suc, _+_, _-_, _/_, _%_}
-use mathlib.Core.Bool.{Bool, _||_}
+use mathlib.Core.Bool.{_||_}
 use lib.Dec.{eqb, ltb}
 use Rattle.format.specs.Format.{Format, done, refuse, number, name, here, bind, pick}
 use Rattle.standard.specs.Fields.{Bytes, only}

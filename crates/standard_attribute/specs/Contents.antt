@@ -1,38 +1,37 @@
 -- Datatype, dataspace and data of an attribute, as they are read and as the standard has them. Assumes nothing.
-use Prim.Native.Nat.{ℕ, zero, suc, _+_, _-_, _*_, _/_, _%_, _≤_, _<_}
+use Prim.Native.Nat.{ℕ, _+_, _-_, _*_, _%_, _≤_, _<_}
 use mathlib.Core.Path.{_≡_, refl, sym, ap, _∙_, subst₃}
 use mathlib.Core.Logic.{_⊎_, inl, inr}
-use mathlib.Core.Bool.{Bool, true, false, _&&_, _||_, not}
+use mathlib.Core.Bool.{Bool, true, false, _&&_}
 use mathlib.Core.List.{List, [], _∷_}
 use native.Mathlib.Omega.{arith}
 use lib.Dec.{eqb, ltb, leb}
 use lib.ListN.{length, getD, take}
-use borrow.Author.Tests.{eqb-true, eqb-false, eq-eqb, ne-eqb, ltb-true, ltb-false, leb-true, leb-false}
+use borrow.Author.Tests.{eqb-true, eqb-false, eq-eqb, ltb-true, ltb-false, leb-false}
 use Rattle.format.specs.Bytes.{le, Trimmed}
 use Rattle.format.specs.BytesLaws.{by-le}
-use Rattle.format.specs.Format.{Format, done, number, skip, here, Stands, bind, check, pick}
+use Rattle.format.specs.Format.{Format, done, number, skip, here, Stands, bind, pick}
 use Rattle.format.specs.Standing.{stands-bind, stands-check}
 use Rattle.records.specs.declared.OptionPart.{OptionPart}
 use Rattle.records.specs.declared.OptionPart.the-variants as parts
-use Rattle.records.specs.declared.Part.{Part}
 use Rattle.records.specs.declared.DataType.{DataType}
 use Rattle.records.specs.declared.DataSpace.{DataSpace}
 use Rattle.parser.specs.declared.State.{State}
 use Rattle.ohdr_datatype.specs.DataTypes.{classOf, dataType, typeLevels}
 use Rattle.ohdr_dataspace.specs.DataSpaces as spaces
 use Rattle.ohdr_attribute.specs.Attributes.{padding, textValue, listValue, otherValue, value, spaceValue, typeSpaceValue}
-use Rattle.standard.specs.Fields.{Bytes, only, raw}
-use Rattle.standard.specs.Tie.{bind-stands, Stood, Tied, TiedBut}
+use Rattle.standard.specs.Fields.{only}
+use Rattle.standard.specs.Tie.{bind-stands, Stood}
 use Rattle.standard.specs.Datatypes.{class, Datatype, headerOf, datatypeMessage}
-use Rattle.standard.specs.Dataspaces.{Dataspace, version-1, version-2, Dataspace2, dataspaceMessage}
-use Rattle.standard.specs.Attributes.{sized, Described, described, product, elements, elementSize, rawSize}
+use Rattle.standard.specs.Dataspaces.{Dataspace, version-1, version-2, dataspaceMessage}
+use Rattle.standard.specs.Attributes.{sized, Described, described, product, elements, rawSize}
 use Rattle.standard.specs.DatatypeRules.{Each}
 use Rattle.standard_datatype.specs.Same.{MembersOfVersion3, SameType}
 use Rattle.standard_datatype.specs.Differences.{TypeDiffers}
 use Rattle.standard_datatype.specs.Ties.{datatype-tied}
 use Rattle.standard_messages.specs.Dataspaces.{SameDataspace, dataspace-tied}
-use Rattle.standard_attribute.specs.Differences.{ElementsDiffer, scalar-with-sizes, null, ContentsDiffer, no-reading, in-datatype, other-datatype-size, other-dataspace-size, other-elements, variable-length-elements, long-data}
-use Rattle.standard_attribute.specs.Same.{Less, PaddedText, SameValue}
+use Rattle.standard_attribute.specs.Differences.{ElementsDiffer, scalar-with-sizes, null, ContentsDiffer, in-datatype, other-datatype-size, other-dataspace-size, other-elements, variable-length-elements, long-data}
+use Rattle.standard_attribute.specs.Same.{PaddedText, SameValue}
 
 -- a text that is ended by zeros has the length that is left without them
 pub padded-length : (s : List ℕ) (p m l n : ℕ) → Trimmed s p m l → PaddedText s (record { position = p; length = m }) n → l ≡ n

@@ -5,7 +5,7 @@ use mathlib.Core.List.{List}
 use Rattle.records.specs.declared.Attribute as ours
 use Rattle.standard.specs.DatatypeRules.{Each}
 use Rattle.standard.specs.Attributes.{Described, Attribute1, Attribute3, Attribute, of-version-1, of-version-3}
-use Rattle.standard.specs.AttributeRules.{NullTerminated, ValidDataspace, ValidDescribed, ValidAttribute1, ValidAttribute3, ValidAttribute}
+use Rattle.standard.specs.AttributeRules.{NullTerminated, ValidDataspace, ValidDescribed, ValidAttribute}
 use Rattle.standard_datatype.specs.Same.{MembersOfVersion3}
 use Rattle.standard_datatype.specs.Rules.{AlikeType, datatype-valid}
 use Rattle.standard_attribute.specs.Same.{SameAttribute}

@@ -1,18 +1,18 @@
 -- Wherever an attribute that is read stands, the standard's attribute message stands over the same bytes with the same name and value, or a
 -- listed difference applies. Assumes nothing.
-use Prim.Native.Nat.{ℕ, zero, suc, _+_, _-_, _*_, _/_, _%_, _≤_, _<_}
+use Prim.Native.Nat.{ℕ, _+_, _≤_, _<_}
 use mathlib.Core.Path.{_≡_, refl, sym, ap, _∙_}
 use mathlib.Core.Logic.{_⊎_, inl, inr}
-use mathlib.Core.Bool.{Bool, true, false, _&&_, _||_, not}
-use mathlib.Core.List.{List, [], _∷_}
+use mathlib.Core.Bool.{Bool, true, false, _||_}
+use mathlib.Core.List.{List}
 use native.Mathlib.Omega.{arith}
 use lib.Dec.{eqb, leb}
-use lib.ListN.{length, getD, take}
-use borrow.Author.Tests.{eqb-true, eqb-false, eq-eqb}
+use lib.ListN.{length}
+use borrow.Author.Tests.{eqb-true, eqb-false}
 use Rattle.format.specs.Bits.{bit}
 use Rattle.format.specs.Bytes.{le, Trimmed}
 use Rattle.format.specs.BytesLaws.{by-le}
-use Rattle.format.specs.Format.{Format, done, number, bytes, skip, text, here, Stands, bind, check, pick}
+use Rattle.format.specs.Format.{Format, done, number, skip, text, here, Stands, bind, check}
 use Rattle.format.specs.Standing.{stands-bind, stands-check}
 use Rattle.records.specs.declared.OptionPart.{OptionPart}
 use Rattle.records.specs.declared.Part.{Part}
@@ -20,18 +20,18 @@ use Rattle.records.specs.declared.Attribute as ours
 use Rattle.parser.specs.declared.State.{State}
 use Rattle.ohdr_datatype.specs.DataTypes.{typeLevels}
 use Rattle.ohdr_attribute.specs.declared.AttributeFields.{AttributeFields}
-use Rattle.ohdr_attribute.specs.Attributes.{namePadding, padding, typeSpaceValue, nameAndValue, encoding, attributeFields, attribute}
+use Rattle.ohdr_attribute.specs.Attributes.{namePadding, padding, nameAndValue, encoding, attributeFields, attribute}
 use Rattle.ohdr_attribute.specs.Without.{With, Without, with-or-without}
-use Rattle.standard.specs.Fields.{Bytes, only, raw}
+use Rattle.standard.specs.Fields.{Bytes, raw}
 use Rattle.standard.specs.Tie.{bind-stands, Stood, Tied, tied-done, tied-number, tied-check}
-use Rattle.standard.specs.Versions.{byVersion, marked, version-stands, marked-stands}
+use Rattle.standard.specs.Versions.{version-stands, marked-stands}
 use Rattle.standard.specs.Datatypes.{toMultipleOf8, class, headerOf}
 use Rattle.standard.specs.DatatypeRules.{Each}
 use Rattle.standard.specs.AttributeRules.{NullTerminated}
 use Rattle.standard_datatype.specs.Same.{MembersOfVersion3}
 use Rattle.standard.specs.Attributes.{Sizes1, sizes1, Sizes3, sizes3, Described, described, rawSize, Attribute1, attribute1, Attribute3, attribute3, Attribute, of-version-1, of-version-3, attributeMessage}
 use Rattle.standard_attribute.specs.Differences.{ContentsDiffer, no-reading, AttributeDiffers, padded-name, shared, in-version-1, in-version-3}
-use Rattle.standard_attribute.specs.Same.{Less, SameValue, SameFields, SameAttribute}
+use Rattle.standard_attribute.specs.Same.{SameValue, SameFields, SameAttribute}
 use Rattle.standard_attribute.specs.Contents.{padded-length, Held, contents-tied}
 
 -- what stands before the name, after the version

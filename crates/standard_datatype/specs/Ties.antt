@@ -1,34 +1,32 @@
 -- Wherever a datatype that is read stands, the standard's datatype message stands over the same bytes with the same fields, or a listed
 -- difference applies. Assumes nothing.
-use Prim.Native.Nat.{ℕ, zero, suc, _+_, _*_, _/_, _%_, _≤_, _<_}
-use mathlib.Core.Path.{_≡_, refl, sym, ap, _∙_}
+use Prim.Native.Nat.{ℕ, zero, suc, _+_, _/_, _%_, _≤_, _<_}
+use mathlib.Core.Path.{_≡_, refl, ap}
 use mathlib.Core.Logic.{_⊎_, inl, inr}
-use mathlib.Core.Bool.{Bool, true, false, _&&_, _||_}
+use mathlib.Core.Bool.{Bool, true, false, _||_}
 use mathlib.Core.List.{List}
 use native.Mathlib.Omega.{arith}
 use lib.Dec.{eqb, ltb}
 use lib.ListN.{length, getD}
-use borrow.Author.Tests.{eqb-true, eqb-false, eq-eqb, ne-eqb, ltb-true, lt-ltb}
+use borrow.Author.Tests.{eqb-true, eqb-false, ltb-true, lt-ltb}
 use Rattle.format.specs.Bytes.{le, Named}
 use Rattle.format.specs.BytesLaws.{by-le, and-left, and-right}
-use Rattle.format.specs.Format.{Format, done, refuse, number, skip, name, Stands, bind, times, check, pick, nothing}
-use Rattle.format.specs.Standing.{stands-bind, stands-check}
-use Rattle.records.specs.declared.OptionU32.{OptionU32}
+use Rattle.format.specs.Format.{Format, done, number, skip, name, Stands, bind, times, pick, nothing}
+use Rattle.format.specs.Standing.{stands-bind}
 use Rattle.records.specs.declared.OptionDataFormat.{OptionDataFormat}
 use Rattle.records.specs.declared.OptionDataFormat.the-variants as optionFormats
-use Rattle.records.specs.declared.DataFormat.the-variants as formats
 use Rattle.records.specs.declared.DataType.{DataType}
 use Rattle.ohdr_datatype.specs.declared.DataTypeHeader.{DataTypeHeader}
 use Rattle.ohdr_datatype.specs.declared.FloatProperties.{FloatProperties}
 use Rattle.ohdr_datatype.specs.DataTypes.{classOf, versionOf, knownVersion, knownClass, knownType, dataTypeHeader, fixedProperties, floatProperties, ieee, floatFormat, memberFields, member, plain, listProperties, listSize, typeLayer, dataType}
 use Rattle.ohdr_datatype.specs.DataTypes as ours
-use Rattle.standard.specs.Fields.{Bytes, only}
-use Rattle.standard.specs.Tie.{bind-stands, Stood, Tied, TiedBut, tied-done, tied-number, tied-check, tied-only, tied-bind, but-tied, but-more, Either, in-first, in-second, but-bind}
+use Rattle.standard.specs.Fields.{only}
+use Rattle.standard.specs.Tie.{bind-stands, Stood, Tied, TiedBut, tied-done, tied-number, tied-check, tied-bind, but-tied, but-more, Either, in-first, in-second, but-bind}
 use Rattle.standard.specs.TieMore.{but-map}
-use Rattle.standard.specs.Datatypes.{DatatypeHeader, datatypeHeader, class, version, memberCount, FixedPoint, fixedPoint, FloatingPoint, floatingPoint, terminated, Member3, member3, offsetBytes, Datatype, datatype, Properties, fixed-point, floating-point, no-properties, members, parent-type, Members, no-members, version-3, members1, members3, compound, properties, datatypeOf, datatypeMessage}
+use Rattle.standard.specs.Datatypes.{DatatypeHeader, datatypeHeader, version, fixedPoint, FloatingPoint, floatingPoint, terminated, Member3, member3, Datatype, datatype, Properties, fixed-point, floating-point, members, parent-type, Members, no-members, version-3, members1, members3, compound, properties, datatypeOf, datatypeMessage}
 use Rattle.standard_datatype.specs.Differences.{LongName, TypeDiffers, in-properties, PropertiesDiffer, members-of-version-1, compound-of-size-0, in-members, in-parent-type, MembersDiffer, long-name, in-member-type, in-later}
-use Rattle.standard_datatype.specs.Same.{formatOf, formatIn, listSizeOf, OfVersion3, MembersOfVersion3, SameType}
-use Rattle.standard.specs.DatatypeRules.{Each, EachInside, EachMember}
+use Rattle.standard_datatype.specs.Same.{formatIn, OfVersion3, MembersOfVersion3, SameType}
+use Rattle.standard.specs.DatatypeRules.{EachInside, EachMember}
 
 -- the header of the standard that has the fields of ours
 abbrev theHeader : DataTypeHeader → DatatypeHeader
