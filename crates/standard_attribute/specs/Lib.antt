@@ -3,3 +3,4 @@ pub mod Same
 pub mod Contents
 pub mod Ties
 pub mod Rules
+pub mod Samples
