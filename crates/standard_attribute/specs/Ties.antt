@@ -31,7 +31,8 @@ use Rattle.standard.specs.AttributeRules.{NullTerminated}
 use Rattle.standard_datatype.specs.Same.{MembersOfVersion3}
 use Rattle.standard.specs.Attributes.{Sizes1, sizes1, Sizes3, sizes3, Described, described, rawSize, Attribute1, attribute1, Attribute3, attribute3, Attribute, of-version-1, of-version-3, attributeMessage}
 use Rattle.standard_attribute.specs.Differences.{ContentsDiffer, no-reading, AttributeDiffers, padded-name, shared, in-version-1, in-version-3}
-use Rattle.standard_attribute.specs.Same.{SameValue, SameFields, SameAttribute}
+use Rattle.standard_attribute.specs.Same.{SameName, SameAttribute, NameStood}
+use Rattle.standard_attribute.specs.Same as names
 use Rattle.standard_attribute.specs.Contents.{padded-length, Held, contents-tied}
 
 -- what stands before the name, after the version
@@ -122,6 +123,41 @@ terminated-length s p m l n h i =
       zeros = λ j a b. let e : j ≡ n = omega (arith, i .size) in rw e (i .terminator);
     })
 
+-- a text of a name field is its name
+same-name : (s : List ℕ) (m n l : ℕ) (name : Part) → Trimmed s m n l → name ≡ record { position = m; length = l } → SameName s name (record { position = m; length = n })
+same-name s m n l name h e =
+    let f : l ≡ name .length = ap (λ (x : Part). x .length) (sym e) in
+    record {
+      bytes = record { position = ap (λ (x : Part). x .position) e; length = rw f at h };
+      terminated = λ k i. sym f ∙ terminated-length s m n l k h i;
+    }
+
+-- what follows the fields before the name
+abbrev ourName : State → AttributeFields → Format ours.Attribute
+ourName state f =
+    here (λ from.
+    text (f .«name_size») (λ length.
+    skip (namePadding (f .version) (f .«name_size»)) (
+    nameAndValue (f .version) state (record { position = from; length = length }))))
+
+module _ (s : List ℕ) (state : State) where
+  -- the name of an attribute that is read, where the fields before it are f
+  name-of : (m q : ℕ) (a : ours.Attribute) (f : AttributeFields) → Stands s (ourName state f) m q a → SameName s (a .name) (record { position = m; length = f .«name_size» })
+  name-of m q a f h =
+      let part : Part = record { position = m; length = h .0 } in
+      same-name s m (f .«name_size») (h .0) (a .name) (h .1) (with-or-without s (f .version) state part (m + f .«name_size» + namePadding (f .version) (f .«name_size»)) q a .0 (h .2 .1) .0)
+
+  name-by : (p m q : ℕ) (a : ours.Attribute) (f : AttributeFields) → FieldsTied s p m f → Stands s (ourName state f) m q a → NameStood s p (a .name)
+  name-by p m q a f (first x h e l v) i = names.in-version-1 m x h (rw e at (name-of m q a f i))
+  name-by p m q a f (third x h e l v) i = names.in-version-3 m x h (rw e at (name-of m q a f i))
+
+  -- Whatever follows it, also where a difference applies: the name is the standard's name field.
+  pub name-tied : (p q : ℕ) (a : ours.Attribute) → Stands s (attribute state) p q a → NameStood s p (a .name)
+  unfolding attribute
+  name-tied p q a h =
+      let w = stands-bind s attributeFields (ourName state) p q a h in
+      name-by p (w .0) q a (w .1) (fields-tied s p (w .0) (w .1) (w .2)) (w .3)
+
 module _ (s : List ℕ) (state : State) (longest : ℕ) (wide : 4095 ≤ longest) where
   abbrev width : ℕ
   width = state .«size_of_lengths»
@@ -135,18 +171,6 @@ module _ (s : List ℕ) (state : State) (longest : ℕ) (wide : 4095 ≤ longest
       → Contents version pad same-pad a b p q (x .value)
   contents-of version pad same-pad a b p q x (inl w) = contents-tied s state longest wide version pad same-pad a b p q (x .value) (w .stands)
   contents-of version pad same-pad a b p q x (inr w) = inl (no-reading (w .nowhere))
-
-  -- the name and the value
-  same-fields : (m n l : ℕ) (a : ours.Attribute) (c : Described) (d : Bytes) → Trimmed s m n l → a .name ≡ record { position = m; length = l }
-      → SameValue s (a .value) (class (headerOf (c .datatype))) (headerOf (c .datatype) .size) d → Each MembersOfVersion3 (c .datatype) → SameFields s a (record { position = m; length = n }) c d
-  same-fields m n l a c d h e v k =
-      let f : l ≡ a .name .length = ap (λ (x : Part). x .length) (sym e) in
-      record {
-        name = record { position = ap (λ (x : Part). x .position) e; length = rw f at h };
-        terminated = λ j i. sym f ∙ terminated-length s m n l j h i;
-        members = k;
-        value = v;
-      }
 
   abbrev Found : ℕ → ℕ → ours.Attribute → Type 0
   Found p q a = AttributeDiffers s state longest p ⊎ Stood (SameAttribute s) (attributeMessage longest typeLevels width) s p q a
@@ -193,14 +217,6 @@ module _ (s : List ℕ) (state : State) (longest : ℕ) (wide : 4095 ≤ longest
   unfolding attributeMessage
   message3 p q x l e h = version-stands s _ p q (of-version-3 x) l (rw e (marked-stands s of-version-3 (attribute3 longest typeLevels width) p q x h))
 
-  -- what follows the fields before the name
-  abbrev ourName : AttributeFields → Format ours.Attribute
-  ourName f =
-      here (λ from.
-      text (f .«name_size») (λ length.
-      skip (namePadding (f .version) (f .«name_size»)) (
-      nameAndValue (f .version) state (record { position = from; length = length }))))
-
   module _ (p m q : ℕ) (a : ours.Attribute) (one : p + 1 ≤ length s) where
     found1 : (x : Sizes1) (l : ℕ) → le s p 1 ≡ 1 → Stands s sizes1 p m x → Trimmed s m (x .name-size) l → a .name ≡ record { position = m; length = l }
         → m + x .name-size + toMultipleOf8 (x .name-size) ≤ length s
@@ -210,13 +226,13 @@ module _ (s : List ℕ) (state : State) (longest : ℕ) (wide : 4095 ≤ longest
         inr (record {
           value = of-version-1 v;
           stands = message1 p q v one e (rw (c .end) at (stands1 p m (c .upto) x (c .contents) h i (c .stands) (c .inside)));
-          related = same-fields m (x .name-size) l a (c .contents) (record { position = c .upto; length = rawSize (c .contents) }) t n (c .value) (c .members);
+          related = record { name = same-name s m (x .name-size) l (a .name) t n; members = c .members; value = c .value };
         })
       where
         v : Attribute1
         v = theAttribute1 x m (le s (m + x .name-size) (toMultipleOf8 (x .name-size))) (c .contents) (c .upto)
 
-    version1 : (x : Sizes1) → le s p 1 ≡ 1 → Stands s sizes1 p m x → Stands s (ourName (record { version = 1; «name_size» = x .name-size })) m q a → Found p q a
+    version1 : (x : Sizes1) → le s p 1 ≡ 1 → Stands s sizes1 p m x → Stands s (ourName state (record { version = 1; «name_size» = x .name-size })) m q a → Found p q a
     version1 x e h i = go (name-padding (x .name-size))
       where
         go : ((8 < x .name-size) × (toMultipleOf8 (x .name-size) ≡ 0 → ⊥)) ⊎ (namePadding 1 (x .name-size) ≡ toMultipleOf8 (x .name-size)) → Found p q a
@@ -235,13 +251,13 @@ module _ (s : List ℕ) (state : State) (longest : ℕ) (wide : 4095 ≤ longest
         inr (record {
           value = of-version-3 v;
           stands = message3 p q v one e (rw (c .end) at (stands3 p m (c .upto) x (c .contents) h f (t .inside) (c .stands) (c .inside)));
-          related = same-fields m (x .name-size) l a (c .contents) (record { position = c .upto; length = rawSize (c .contents) }) t n (c .value) (c .members);
+          related = record { name = same-name s m (x .name-size) l (a .name) t n; members = c .members; value = c .value };
         })
       where
         v : Attribute3
         v = theAttribute3 x m (c .contents) (c .upto)
 
-    version3 : (x : Sizes3) → le s p 1 ≡ 3 → Stands s sizes3 p m x → Stands s (ourName (record { version = 3; «name_size» = x .name-size })) m q a → Found p q a
+    version3 : (x : Sizes3) → le s p 1 ≡ 3 → Stands s sizes3 p m x → Stands s (ourName state (record { version = 3; «name_size» = x .name-size })) m q a → Found p q a
     version3 x e h i = go (bit (x .flags) 0 || bit (x .flags) 1) refl
       where
         go : (t : Bool) → (bit (x .flags) 0 || bit (x .flags) 1) ≡ t → Found p q a
@@ -253,7 +269,7 @@ module _ (s : List ℕ) (state : State) (longest : ℕ) (wide : 4095 ≤ longest
             let w = with-or-without s 3 state part (m + x .name-size) q a .0 j in
             found3 x (i .0) e h d (i .1) (w .0) (contents-of 3 (λ _. 0) (λ _. refl) (x .datatype-size) (x .dataspace-size) (m + x .name-size) q a (w .1))
 
-  by-version : (p m q : ℕ) (a : ours.Attribute) (f : AttributeFields) → FieldsTied s p m f → Stands s (ourName f) m q a → Found p q a
+  by-version : (p m q : ℕ) (a : ours.Attribute) (f : AttributeFields) → FieldsTied s p m f → Stands s (ourName state f) m q a → Found p q a
   by-version p m q a f (first x h e l v) i = version1 p m q a l x v h (rw e at i)
   by-version p m q a f (third x h e l v) i = version3 p m q a l x v h (rw e at i)
 
@@ -263,5 +279,5 @@ module _ (s : List ℕ) (state : State) (longest : ℕ) (wide : 4095 ≤ longest
       → AttributeDiffers s state longest p ⊎ Stood (SameAttribute s) (attributeMessage longest typeLevels (state .«size_of_lengths»)) s p q a
   unfolding attribute
   attribute-tied p q a h =
-      let w = stands-bind s attributeFields ourName p q a h in
+      let w = stands-bind s attributeFields (ourName state) p q a h in
       by-version p (w .0) q a (w .1) (fields-tied s p (w .0) (w .1) (w .2)) (w .3)
