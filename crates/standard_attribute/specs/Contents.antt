@@ -193,7 +193,7 @@ module _ (s : List ℕ) (state : State) (longest : ℕ) (wide : 4095 ≤ longest
         count (inl e) = inl (other-elements m x h e)
         count (inr e) =
             let w = value-tied s t (spaces.elements d) m q v l k in
-            split (subst₃ (λ (a b g : ℕ). ValueTied s a b g m q v) (ap (λ (y : ℕ). y % 16) (i .class-and-version)) (i .size) (elements-same d (x .dataspace) j e) w)
+            split (subst₃ (λ (a b g : ℕ). ValueTied s a b g m q v) (ap (λ (y : ℕ). y % 16) (i .header .class-and-version)) (i .header .size) (elements-same d (x .dataspace) j e) w)
 
     abbrev theContents : Datatype → ℕ → Dataspace → ℕ → Described
     theContents t a d b = record { datatype = t; datatype-padding = a; dataspace = d; dataspace-padding = b }

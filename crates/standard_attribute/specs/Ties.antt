@@ -22,13 +22,11 @@ use Rattle.ohdr_datatype.specs.DataTypes.{typeLevels}
 use Rattle.ohdr_attribute.specs.declared.AttributeFields.{AttributeFields}
 use Rattle.ohdr_attribute.specs.Attributes.{namePadding, padding, nameAndValue, encoding, attributeFields, attribute}
 use Rattle.ohdr_attribute.specs.Without.{With, Without, with-or-without}
-use Rattle.standard.specs.Fields.{Bytes, raw}
+use Rattle.standard.specs.Fields.{raw}
 use Rattle.standard.specs.Tie.{bind-stands, Stood, Tied, tied-done, tied-number, tied-check}
 use Rattle.standard.specs.Versions.{version-stands, marked-stands}
-use Rattle.standard.specs.Datatypes.{toMultipleOf8, class, headerOf}
-use Rattle.standard.specs.DatatypeRules.{Each}
+use Rattle.standard.specs.Datatypes.{toMultipleOf8}
 use Rattle.standard.specs.AttributeRules.{NullTerminated}
-use Rattle.standard_datatype.specs.Same.{MembersOfVersion3}
 use Rattle.standard.specs.Attributes.{Sizes1, sizes1, Sizes3, sizes3, Described, described, rawSize, Attribute1, attribute1, Attribute3, attribute3, Attribute, of-version-1, of-version-3, attributeMessage}
 use Rattle.standard_attribute.specs.Differences.{ContentsDiffer, no-reading, AttributeDiffers, padded-name, shared, in-version-1, in-version-3}
 use Rattle.standard_attribute.specs.Same.{SameName, SameAttribute, NameStood}

@@ -25,7 +25,7 @@ use Rattle.standard.specs.Tie.{bind-stands, Stood, Tied, TiedBut, tied-done, ti
 use Rattle.standard.specs.TieMore.{but-map}
 use Rattle.standard.specs.Datatypes.{DatatypeHeader, datatypeHeader, version, fixedPoint, FloatingPoint, floatingPoint, terminated, Member3, member3, Datatype, datatype, Properties, fixed-point, floating-point, members, parent-type, Members, no-members, version-3, members1, members3, compound, properties, datatypeOf, datatypeMessage}
 use Rattle.standard_datatype.specs.Differences.{LongName, TypeDiffers, in-properties, PropertiesDiffer, members-of-version-1, compound-of-size-0, in-members, in-parent-type, MembersDiffer, long-name, in-member-type, in-later}
-use Rattle.standard_datatype.specs.Same.{formatIn, OfVersion3, MembersOfVersion3, SameType}
+use Rattle.standard_datatype.specs.Same.{formatIn, OfVersion3, MembersOfVersion3, SameHeader, SameType, HeaderStood}
 use Rattle.standard.specs.DatatypeRules.{EachInside, EachMember}
 
 -- the header of the standard that has the fields of ours
@@ -33,16 +33,23 @@ abbrev theHeader : DataTypeHeader → DatatypeHeader
 theHeader h = record { class-and-version = h .«class_and_version»; class-bit-field = h .«class_bit_field»; size = h .size }
 
 -- it is that, and ours has passed its tests
-record SameHeader (h : DataTypeHeader) (b : DatatypeHeader) : Type 0 where
+record Passed (h : DataTypeHeader) (b : DatatypeHeader) : Type 0 where
   same : theHeader h ≡ b
   known : knownType (h .«class_and_version») ≡ true
   small : ltb (h .size) 64 ≡ true
 
-header-tied : Tied SameHeader dataTypeHeader datatypeHeader
+header-tied : Tied Passed dataTypeHeader datatypeHeader
 unfolding dataTypeHeader datatypeHeader
 header-tied =
     tied-number (λ cv. tied-check (knownType cv) 11 (λ k. tied-number (λ bits. tied-number (λ size. tied-check (ltb size 64) 11 (λ l.
     tied-done (record { same = refl; known = k; small = l }))))))
+
+-- the record that is made of a header and a format
+abbrev typeOf : DataTypeHeader → OptionDataFormat → DataType
+typeOf h f = record { «class_and_version» = h .«class_and_version»; «class_bit_field» = h .«class_bit_field»; size = h .size; «list_size» = listSize h; «data_fmt» = f }
+
+same-header : (h : DataTypeHeader) (b : DatatypeHeader) (f : OptionDataFormat) (t : DataType) → theHeader h ≡ b → typeOf h f ≡ t → SameHeader t b
+same-header h b f t e d = rw (← e, ← d) (record { class-and-version = refl; class-bit-field = refl; size = refl; list-size = refl })
 
 -- the properties of ours are those of the standard, and members are of version 3
 record SameProperties (f : OptionDataFormat) (p : Properties) : Type 0 where
@@ -274,15 +281,7 @@ module _ (longest : ℕ) (wide : 4095 ≤ longest) where
 
     -- what follows the header
     abbrev ourRest : DataTypeHeader → Format DataType
-    ourRest h =
-        bind (ours.properties h (dataType levels)) (λ data-fmt.
-        done {A = DataType} (record {
-          «class_and_version» = h .«class_and_version»;
-          «class_bit_field» = h .«class_bit_field»;
-          size = h .size;
-          «list_size» = listSize h;
-          «data_fmt» = data-fmt;
-        }))
+    ourRest h = bind (ours.properties h (dataType levels)) (λ data-fmt. done (typeOf h data-fmt))
 
     abbrev theirRest : DatatypeHeader → Format Datatype
     theirRest b = only (eqb (version b) 1 || eqb (version b) 3) (bind (properties longest (datatypeMessage longest levels) b) (λ p. done (datatype b p)))
@@ -291,9 +290,8 @@ module _ (longest : ℕ) (wide : 4095 ≤ longest) where
         → TiedBut (λ s p. PropertiesDiffer longest s (theHeader h) p) SameType (ourRest h) (theirRest (theHeader h))
     rest-tied h k l = rw (known-version h k) (but-more differs (but-bind (properties-tied h k l) (λ f p e. but-tied {D = λ _ _. ⊥} (tied-done (same f p e)))))
       where
-        same : (f : OptionDataFormat) (p : Properties) → SameProperties f p
-            → SameType (record { «class_and_version» = h .«class_and_version»; «class_bit_field» = h .«class_bit_field»; size = h .size; «list_size» = listSize h; «data_fmt» = f }) (datatype (theHeader h) p)
-        same f p e = record { class-and-version = refl; class-bit-field = refl; size = refl; list-size = refl; properties = e .format; members = (e .outside (theHeader h), e .inside) }
+        same : (f : OptionDataFormat) (p : Properties) → SameProperties f p → SameType (typeOf h f) (datatype (theHeader h) p)
+        same f p e = record { header = same-header h (theHeader h) f (typeOf h f) refl refl; properties = e .format; members = (e .outside (theHeader h), e .inside) }
 
         differs : (s : List ℕ) (p : ℕ) → Either (λ s p. PropertiesDiffer longest s (theHeader h) p) (properties longest (datatypeMessage longest levels) (theHeader h)) (λ _ _ _. ⊥) s p
             → PropertiesDiffer longest s (theHeader h) p
@@ -314,3 +312,13 @@ module _ (longest : ℕ) (wide : 4095 ≤ longest) where
   unfolding dataType datatypeMessage
   datatype-tied zero = record { ties = λ s p q a h. absurd h }
   datatype-tied (suc levels) = layer-tied levels (datatype-tied levels)
+
+-- Whatever its properties are, also where a difference applies: the fields of the header are the standard's.
+pub header-fields-tied : (s : List ℕ) (levels p q : ℕ) (t : DataType) → Stands s (dataType levels) p q t → HeaderStood s p t
+unfolding dataType typeLayer
+header-fields-tied s zero p q t h = absurd h
+header-fields-tied s (suc levels) p q t h =
+    let w = stands-bind s dataTypeHeader (λ h. bind (ours.properties h (dataType levels)) (λ f. done (typeOf h f))) p q t h in
+    let x = header-tied .ties s p (w .0) (w .1) (w .2) in
+    let v = stands-bind s (ours.properties (w .1) (dataType levels)) (λ f. done (typeOf (w .1) f)) (w .0) q t (w .3) in
+    record { upto = w .0; header = x .value; stands = x .stands; same = same-header (w .1) (x .value) (v .1) t (x .related .same) (v .3 .1) }
