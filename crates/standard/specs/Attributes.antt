@@ -1,7 +1,7 @@
--- IV.A.2.m, The Attribute Message: versions 1 and 3. Written from the specification alone. Assumes nothing: these are definitions.
+-- IV.A.2.m, The Attribute Message: versions 1 and 3. Assumes nothing: these are definitions.
 -- Version 2 has a table too; nothing that is read is compared with it.
 use Prim.Native.Nat.{ℕ, _+_, _*_}
-use mathlib.Core.Bool.{Bool, not, _||_}
+use mathlib.Core.Bool.{not, _||_}
 use mathlib.Core.List.{List, [], _∷_}
 use lib.Dec.{eqb}
 use Rattle.format.specs.Bits.{bit}
@@ -66,8 +66,7 @@ sizes3 =
 unfoldable pub sized : {A : Type 0} → ℕ → Format A → Format A
 sized n F = here (λ from. bind F (λ x. here (λ upto. only (eqb upto (from + n)) (done x))))
 
--- Datatype and Dataspace, each with the padding that it has. In version 1 each field "is padded with additional zero bytes to make it a
--- multiple of eight bytes", in version 3 it "is not padded with additional bytes".
+-- Datatype and Dataspace, each with its padding: in version 1 to a multiple of eight bytes, in version 3 none
 pub record Described : Type 0 where
   pub datatype : Datatype
   pub datatype-padding : ℕ
@@ -101,7 +100,7 @@ elements (version-2 x) = pick (eqb (x .type) 0) 1 (pick (eqb (x .type) 2) 0 (pro
 abbrev pub elementSize : Datatype → ℕ
 elementSize t = headerOf t .size
 
--- Data: "the size is determined from the datatype and dataspace descriptions"
+-- Data: as many bytes as datatype and dataspace say, one datatype element for each element of the dataspace
 abbrev pub rawSize : Described → ℕ
 rawSize x = elements (x .dataspace) * elementSize (x .datatype)
 

@@ -1,19 +1,19 @@
 -- The two bounds of the standard's datatype message only refuse: what stands under them stands under greater ones, with the same value.
 -- Assumes nothing.
 use Prim.Native.Nat.{ℕ, zero, suc, _+_, _≤_}
-use mathlib.Core.Path.{_≡_, refl, sym, _∙_}
-use mathlib.Core.Logic.{_⊎_, inl, inr}
-use mathlib.Core.Bool.{Bool, true, false, _||_}
+use mathlib.Core.Path.{_≡_, refl}
+use mathlib.Core.Logic.{inr}
+use mathlib.Core.Bool.{_||_}
 use mathlib.Core.List.{List}
 use native.Mathlib.Omega.{arith}
 use lib.Dec.{eqb}
 use lib.ListN.{length, getD}
 use borrow.Author.Tests.{eqb-true}
 use Rattle.format.specs.Bytes.{le, Named}
-use Rattle.format.specs.Format.{Format, done, number, name, here, Stands, bind, check, pick}
+use Rattle.format.specs.Format.{Format, done, number, Stands, bind}
 use Rattle.format.specs.Standing.{stands-check}
 use Rattle.standard.specs.Fields.{Bytes, only}
-use Rattle.standard.specs.Tie.{Stood, Tied, tied-bind, tied-pick}
+use Rattle.standard.specs.Tie.{Tied, tied-bind, tied-pick}
 use Rattle.standard.specs.Datatypes.{terminated, member1, member3, Datatype, members1, members3, compound, properties, DatatypeHeader, class, version, datatypeOf, datatypeMessage, no-members}
 
 -- wherever F stands, G stands with the same value

@@ -1,8 +1,8 @@
 -- IV.A.2.d, The Datatype Message: versions 1 and 3 of the classes fixed-point 0, floating-point 1, string 3, compound 6, reference 7
--- and variable-length 9. Written from the specification alone. Assumes nothing: these are definitions.
+-- and variable-length 9. Assumes nothing: these are definitions.
 -- Versions 2 and 4 and the other classes have tables too; nothing that is read is compared with them.
 use Prim.Native.Nat.{ℕ, zero, suc, _+_, _-_, _/_, _%_}
-use mathlib.Core.Bool.{Bool, _||_}
+use mathlib.Core.Bool.{_||_}
 use lib.Dec.{eqb, ltb}
 use Rattle.format.specs.Format.{Format, done, refuse, number, name, here, bind, pick}
 use Rattle.standard.specs.Fields.{Bytes, only}
@@ -24,7 +24,7 @@ datatypeHeader =
       size = size;
     }))))
 
--- Class and Version: "the version number is packed in the top 4 bits of the field and the class is contained in the bottom 4 bits"
+-- Class and Version: the class in the low 4 bits, the version in the high 4
 abbrev pub class : DatatypeHeader → ℕ
 class h = h .class-and-version % 16
 
@@ -134,8 +134,7 @@ pub record Member3 : Type 0 where
   pub name : Bytes
   pub byte-offset-of-member : ℕ
 
--- Byte Offset of Member: "the minimum number of bytes necessary, based on the size of the datatype element": 1 for a size of less than
--- 256, 2 for 256 to 65535, "and so on"
+-- Byte Offset of Member: as many bytes as the size of the datatype element needs: 1 below 256, 2 below 65,536, and likewise for 3 and 4
 abbrev pub offsetBytes : ℕ → ℕ
 offsetBytes size = pick (ltb size 256) 1 (pick (ltb size 65536) 2 (pick (ltb size 16777216) 3 4))
 
@@ -150,7 +149,7 @@ mutual
   pub data Datatype : Type 0 where
     datatype : DatatypeHeader → Properties → Datatype
 
-  -- Properties, by class: "if there is no property information specified for a datatype class, the size of this field is zero bytes"
+  -- Properties, by class; a class without them has no bytes here
   pub data Properties : Type 0 where
     fixed-point : FixedPoint → Properties
     floating-point : FloatingPoint → Properties

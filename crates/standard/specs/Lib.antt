@@ -9,5 +9,7 @@ pub mod Infos
 pub mod Storage
 pub mod Datatypes
 pub mod DatatypeBounds
+pub mod DatatypeRules
 pub mod Attributes
+pub mod AttributeRules
 pub mod Examples

@@ -3,7 +3,7 @@ use Prim.Native.Nat.{ℕ}
 use mathlib.Core.Path.{refl}
 use mathlib.Core.Logic.{_⊎_, inl, inr}
 use mathlib.Core.List.{List}
-use Rattle.format.specs.Format.{Format, done, Stands, bind}
+use Rattle.format.specs.Format.{Format, done, bind}
 use Rattle.standard.specs.Tie.{bind-stands, Stood, TiedBut}
 
 -- a value that is made of the other's

@@ -1,37 +1,45 @@
 -- Datatype, dataspace and data of an attribute, as they are read and as the standard has them. Assumes nothing.
-use Prim.Native.Nat.{ℕ, zero, suc, _+_, _-_, _*_, _/_, _%_, _≤_, _<_}
+use Prim.Native.Nat.{ℕ, _+_, _-_, _*_, _%_, _≤_, _<_}
 use mathlib.Core.Path.{_≡_, refl, sym, ap, _∙_, subst₃}
 use mathlib.Core.Logic.{_⊎_, inl, inr}
-use mathlib.Core.Bool.{Bool, true, false, _&&_, _||_, not}
+use mathlib.Core.Bool.{Bool, true, false, _&&_}
 use mathlib.Core.List.{List, [], _∷_}
 use native.Mathlib.Omega.{arith}
 use lib.Dec.{eqb, ltb, leb}
 use lib.ListN.{length, getD, take}
-use borrow.Author.Tests.{eqb-true, eqb-false, eq-eqb, ne-eqb, ltb-true, ltb-false, leb-true, leb-false}
+use borrow.Author.Tests.{eqb-true, eqb-false, eq-eqb, ltb-true, ltb-false, leb-false}
 use Rattle.format.specs.Bytes.{le, Trimmed}
 use Rattle.format.specs.BytesLaws.{by-le}
-use Rattle.format.specs.Format.{Format, done, number, skip, here, Stands, bind, check, pick}
+use Rattle.format.specs.Format.{Format, done, number, skip, here, Stands, bind, pick}
 use Rattle.format.specs.Standing.{stands-bind, stands-check}
 use Rattle.records.specs.declared.OptionPart.{OptionPart}
 use Rattle.records.specs.declared.OptionPart.the-variants as parts
-use Rattle.records.specs.declared.Part.{Part}
 use Rattle.records.specs.declared.DataType.{DataType}
 use Rattle.records.specs.declared.DataSpace.{DataSpace}
 use Rattle.parser.specs.declared.State.{State}
 use Rattle.ohdr_datatype.specs.DataTypes.{classOf, dataType, typeLevels}
 use Rattle.ohdr_dataspace.specs.DataSpaces as spaces
 use Rattle.ohdr_attribute.specs.Attributes.{padding, textValue, listValue, otherValue, value, spaceValue, typeSpaceValue}
-use Rattle.standard.specs.Fields.{Bytes, only, raw}
-use Rattle.standard.specs.Tie.{bind-stands, Stood, Tied, TiedBut}
+use Rattle.standard.specs.Fields.{only}
+use Rattle.standard.specs.Tie.{bind-stands, Stood}
 use Rattle.standard.specs.Datatypes.{class, Datatype, headerOf, datatypeMessage}
-use Rattle.standard.specs.Dataspaces.{Dataspace, version-1, version-2, Dataspace2, dataspaceMessage}
-use Rattle.standard.specs.Attributes.{sized, Described, described, product, elements, elementSize, rawSize}
-use Rattle.standard_datatype.specs.Same.{SameType}
+use Rattle.standard.specs.Dataspaces.{Dataspace, version-1, version-2, dataspaceMessage}
+use Rattle.standard.specs.Attributes.{sized, Described, described, product, elements, rawSize}
+use Rattle.standard.specs.DatatypeRules.{Each}
+use Rattle.standard_datatype.specs.Same.{MembersOfVersion3, SameType}
 use Rattle.standard_datatype.specs.Differences.{TypeDiffers}
 use Rattle.standard_datatype.specs.Ties.{datatype-tied}
 use Rattle.standard_messages.specs.Dataspaces.{SameDataspace, dataspace-tied}
-use Rattle.standard_attribute.specs.Differences.{ElementsDiffer, scalar-with-sizes, null, ContentsDiffer, no-reading, in-datatype, other-datatype-size, other-dataspace-size, other-elements, variable-length-elements, long-data}
-use Rattle.standard_attribute.specs.Same.{Less, SameValue}
+use Rattle.standard_attribute.specs.Differences.{ElementsDiffer, scalar-with-sizes, null, ContentsDiffer, in-datatype, other-datatype-size, other-dataspace-size, other-elements, variable-length-elements, long-data}
+use Rattle.standard_attribute.specs.Same.{PaddedText, SameValue}
+
+-- a text that is ended by zeros has the length that is left without them
+pub padded-length : (s : List ℕ) (p m l n : ℕ) → Trimmed s p m l → PaddedText s (record { position = p; length = m }) n → l ≡ n
+padded-length s p m l n h i = by-le l n (λ a. by-le n l (λ b. omega arith) (λ b. absurd (i .text l b (h .zeros l (omega arith) (omega (arith, i .within)))))) (λ a. absurd (last (h .last) a))
+  where
+    last : (l ≡ 0) ⊎ (getD s (p + (l - 1)) 0 ≡ 0 → ⊥) → n < l → ⊥
+    last (inl e) a = omega arith
+    last (inr f) a = f (i .zeros (l - 1) (omega arith) (omega (arith, h .within)))
 
 module _ (s : List ℕ) where
   -- what stands as the value is the data field of n elements, or the two differ
@@ -63,7 +71,7 @@ module _ (s : List ℕ) where
     text-tied c l h =
         same (h .1 .inside) (h .2 .0)
         (record {
-          text = λ _ _. (record { position = p; length = h .0 }, sym (h .2 .1), record { position = refl; length = h .1 });
+          text = λ _ _. (record { position = p; length = h .0 }, sym (h .2 .1), record { position = refl; length = h .1 }, λ k i. padded-length s p (n * size) (h .0) k (h .1) i);
           other = λ f. absurd (f c l);
         })
 
@@ -153,6 +161,7 @@ module _ (s : List ℕ) (state : State) (longest : ℕ) (wide : 4095 ≤ longest
       pub stands : Stands s theDescribed p upto contents
       pub inside : upto + rawSize contents ≤ length s
       pub end : upto + rawSize contents ≡ q
+      pub members : Each MembersOfVersion3 (contents .datatype)
       pub value : SameValue s v (class (headerOf (contents .datatype))) (headerOf (contents .datatype) .size) (record { position = upto; length = rawSize contents })
 
     abbrev Contents : ℕ → ℕ → OptionPart → Type 0
@@ -178,13 +187,13 @@ module _ (s : List ℕ) (state : State) (longest : ℕ) (wide : 4095 ≤ longest
         split : ValueTied s c size n m q v → Contents p q v
         split (other-lists a b) = inl (variable-length-elements m x h a b)
         split (too-long a b g) = inl (long-data m x h a b g)
-        split (same a b g) = inr (record { contents = x; upto = m; stands = h; inside = a; end = b; value = g })
+        split (same a b g) = inr (record { contents = x; upto = m; stands = h; inside = a; end = b; members = i .members; value = g })
 
         count : ElementsDiffer (x .dataspace) ⊎ (product (sizesOf (x .dataspace)) ≡ elements (x .dataspace)) → Contents p q v
         count (inl e) = inl (other-elements m x h e)
         count (inr e) =
             let w = value-tied s t (spaces.elements d) m q v l k in
-            split (subst₃ (λ (a b g : ℕ). ValueTied s a b g m q v) (ap (λ (y : ℕ). y % 16) (i .class-and-version)) (i .size) (elements-same d (x .dataspace) j e) w)
+            split (subst₃ (λ (a b g : ℕ). ValueTied s a b g m q v) (ap (λ (y : ℕ). y % 16) (i .header .class-and-version)) (i .header .size) (elements-same d (x .dataspace) j e) w)
 
     abbrev theContents : Datatype → ℕ → Dataspace → ℕ → Described
     theContents t a d b = record { datatype = t; datatype-padding = a; dataspace = d; dataspace-padding = b }

@@ -11,7 +11,7 @@ use Rattle.parser.specs.declared.State.{State}
 use Rattle.ohdr_datatype.specs.DataTypes.{typeLevels}
 use Rattle.ohdr_attribute.specs.Attributes.{typeSpaceValue}
 use Rattle.standard.specs.Datatypes.{toMultipleOf8, class, Datatype, headerOf, datatypeMessage}
-use Rattle.standard.specs.Dataspaces.{Dataspace2, Dataspace, version-1, version-2, dataspaceMessage}
+use Rattle.standard.specs.Dataspaces.{Dataspace2, Dataspace, version-2, dataspaceMessage}
 use Rattle.standard.specs.Attributes.{Sizes1, sizes1, Sizes3, sizes3, sized, Described, described, elements, rawSize}
 use Rattle.standard_datatype.specs.Differences.{TypeDiffers}
 

@@ -1,57 +1,65 @@
 -- Wherever a datatype that is read stands, the standard's datatype message stands over the same bytes with the same fields, or a listed
 -- difference applies. Assumes nothing.
-use Prim.Native.Nat.{ℕ, zero, suc, _+_, _*_, _/_, _%_, _≤_, _<_}
-use mathlib.Core.Path.{_≡_, refl, sym, ap, _∙_}
+use Prim.Native.Nat.{ℕ, zero, suc, _+_, _/_, _%_, _≤_, _<_}
+use mathlib.Core.Path.{_≡_, refl, ap}
 use mathlib.Core.Logic.{_⊎_, inl, inr}
-use mathlib.Core.Bool.{Bool, true, false, _&&_, _||_}
+use mathlib.Core.Bool.{Bool, true, false, _||_}
 use mathlib.Core.List.{List}
 use native.Mathlib.Omega.{arith}
 use lib.Dec.{eqb, ltb}
 use lib.ListN.{length, getD}
-use borrow.Author.Tests.{eqb-true, eqb-false, eq-eqb, ne-eqb, ltb-true, lt-ltb}
+use borrow.Author.Tests.{eqb-true, eqb-false, ltb-true, lt-ltb}
 use Rattle.format.specs.Bytes.{le, Named}
 use Rattle.format.specs.BytesLaws.{by-le, and-left, and-right}
-use Rattle.format.specs.Format.{Format, done, refuse, number, skip, name, Stands, bind, times, check, pick, nothing}
-use Rattle.format.specs.Standing.{stands-bind, stands-check}
-use Rattle.records.specs.declared.OptionU32.{OptionU32}
+use Rattle.format.specs.Format.{Format, done, number, skip, name, Stands, bind, times, pick, nothing}
+use Rattle.format.specs.Standing.{stands-bind}
 use Rattle.records.specs.declared.OptionDataFormat.{OptionDataFormat}
 use Rattle.records.specs.declared.OptionDataFormat.the-variants as optionFormats
-use Rattle.records.specs.declared.DataFormat.the-variants as formats
 use Rattle.records.specs.declared.DataType.{DataType}
 use Rattle.ohdr_datatype.specs.declared.DataTypeHeader.{DataTypeHeader}
 use Rattle.ohdr_datatype.specs.declared.FloatProperties.{FloatProperties}
 use Rattle.ohdr_datatype.specs.DataTypes.{classOf, versionOf, knownVersion, knownClass, knownType, dataTypeHeader, fixedProperties, floatProperties, ieee, floatFormat, memberFields, member, plain, listProperties, listSize, typeLayer, dataType}
 use Rattle.ohdr_datatype.specs.DataTypes as ours
-use Rattle.standard.specs.Fields.{Bytes, only}
-use Rattle.standard.specs.Tie.{bind-stands, Stood, Tied, TiedBut, tied-done, tied-number, tied-check, tied-only, tied-bind, but-tied, but-more, Either, in-first, in-second, but-bind}
+use Rattle.standard.specs.Fields.{only}
+use Rattle.standard.specs.Tie.{bind-stands, Stood, Tied, TiedBut, tied-done, tied-number, tied-check, tied-bind, but-tied, but-more, Either, in-first, in-second, but-bind}
 use Rattle.standard.specs.TieMore.{but-map}
-use Rattle.standard.specs.Datatypes.{DatatypeHeader, datatypeHeader, class, version, memberCount, FixedPoint, fixedPoint, FloatingPoint, floatingPoint, terminated, Member3, member3, offsetBytes, Datatype, datatype, Properties, fixed-point, floating-point, no-properties, members, parent-type, Members, no-members, version-3, members1, members3, compound, properties, datatypeOf, datatypeMessage}
+use Rattle.standard.specs.Datatypes.{DatatypeHeader, datatypeHeader, version, fixedPoint, FloatingPoint, floatingPoint, terminated, Member3, member3, Datatype, datatype, Properties, fixed-point, floating-point, members, parent-type, Members, no-members, version-3, members1, members3, compound, properties, datatypeOf, datatypeMessage}
 use Rattle.standard_datatype.specs.Differences.{LongName, TypeDiffers, in-properties, PropertiesDiffer, members-of-version-1, compound-of-size-0, in-members, in-parent-type, MembersDiffer, long-name, in-member-type, in-later}
-use Rattle.standard_datatype.specs.Same.{formatOf, formatIn, listSizeOf, SameType}
+use Rattle.standard_datatype.specs.Same.{formatIn, OfVersion3, MembersOfVersion3, SameHeader, SameType, HeaderStood}
+use Rattle.standard.specs.DatatypeRules.{EachInside, EachMember}
 
 -- the header of the standard that has the fields of ours
 abbrev theHeader : DataTypeHeader → DatatypeHeader
 theHeader h = record { class-and-version = h .«class_and_version»; class-bit-field = h .«class_bit_field»; size = h .size }
 
 -- it is that, and ours has passed its tests
-record SameHeader (h : DataTypeHeader) (b : DatatypeHeader) : Type 0 where
+record Passed (h : DataTypeHeader) (b : DatatypeHeader) : Type 0 where
   same : theHeader h ≡ b
   known : knownType (h .«class_and_version») ≡ true
   small : ltb (h .size) 64 ≡ true
 
-header-tied : Tied SameHeader dataTypeHeader datatypeHeader
+header-tied : Tied Passed dataTypeHeader datatypeHeader
 unfolding dataTypeHeader datatypeHeader
 header-tied =
     tied-number (λ cv. tied-check (knownType cv) 11 (λ k. tied-number (λ bits. tied-number (λ size. tied-check (ltb size 64) 11 (λ l.
     tied-done (record { same = refl; known = k; small = l }))))))
 
--- the properties of ours are those of the standard
-abbrev SameProperties : OptionDataFormat → Properties → Type 0
-SameProperties f p = f ≡ formatIn p
+-- the record that is made of a header and a format
+abbrev typeOf : DataTypeHeader → OptionDataFormat → DataType
+typeOf h f = record { «class_and_version» = h .«class_and_version»; «class_bit_field» = h .«class_bit_field»; size = h .size; «list_size» = listSize h; «data_fmt» = f }
+
+same-header : (h : DataTypeHeader) (b : DatatypeHeader) (f : OptionDataFormat) (t : DataType) → theHeader h ≡ b → typeOf h f ≡ t → SameHeader t b
+same-header h b f t e d = rw (← e, ← d) (record { class-and-version = refl; class-bit-field = refl; size = refl; list-size = refl })
+
+-- the properties of ours are those of the standard, and members are of version 3
+record SameProperties (f : OptionDataFormat) (p : Properties) : Type 0 where
+  format : f ≡ formatIn p
+  outside : (h : DatatypeHeader) → MembersOfVersion3 h p
+  inside : EachInside MembersOfVersion3 p
 
 fixed-tied : Tied SameProperties fixedProperties (bind fixedPoint (λ f. done (fixed-point f)))
 unfolding fixedProperties fixedPoint bind
-fixed-tied = tied-number (λ o. tied-number (λ p. tied-done refl))
+fixed-tied = tied-number (λ o. tied-number (λ p. tied-done (record { format = refl; outside = λ _. tt; inside = tt })))
 
 -- the seven fields of a floating-point number
 abbrev theFloat : FloatProperties → FloatingPoint
@@ -72,7 +80,7 @@ float-fields-tied = tied-number (λ a. tied-number (λ b. tied-number (λ c. tie
 
 float-tied : Tied SameProperties floatFormat (bind floatingPoint (λ f. done (floating-point f)))
 unfolding floatFormat
-float-tied = tied-bind float-fields-tied (λ f g e. tied-check (ieee f) 11 (λ _. tied-done (ap (λ (x : FloatingPoint). formatIn (floating-point x)) e)))
+float-tied = tied-bind float-fields-tied (λ f g e. tied-check (ieee f) 11 (λ _. tied-done (record { format = ap (λ (x : FloatingPoint). formatIn (floating-point x)) e; outside = λ _. tt; inside = tt })))
 
 -- one of two tests has passed
 either : (a b : Bool) → (a || b) ≡ true → (a ≡ true) ⊎ (b ≡ true)
@@ -160,8 +168,10 @@ module _ (longest : ℕ) (wide : 4095 ≤ longest) where
   -- over what is tied of the types inside
   module _ (levels : ℕ) (types : TiedBut (λ s p. TypeDiffers longest s p) SameType (dataType levels) (datatypeMessage longest levels)) where
     -- of the members ours keeps nothing
-    abbrev NoFormat : OptionDataFormat → Members → Type 0
-    NoFormat f _ = f ≡ optionFormats.None
+    record NoFormat (f : OptionDataFormat) (m : Members) : Type 0 where
+      none : f ≡ optionFormats.None
+      outside : OfVersion3 m
+      inside : EachMember MembersOfVersion3 m
 
     abbrev ourMembers : ℕ → ℕ → Format OptionDataFormat
     ourMembers size n = times n (member 3 size (dataType levels)) plain
@@ -180,7 +190,7 @@ module _ (longest : ℕ) (wide : 4095 ≤ longest) where
     more-members size n s p m r q a (inl d) t y z = inl (long-name d)
     more-members size n s p m r q a (inr x) t (inl d) z = inl (in-member-type m (x .value) (x .stands) d)
     more-members size n s p m r q a (inr x) t (inr y) (inl d) = inl (in-later m r levels (x .value) (y .value) (x .stands) (y .stands) d)
-    more-members size n s p m r q a (inr x) t (inr y) (inr z) = inr (record { value = v; stands = stand; related = z .related })
+    more-members size n s p m r q a (inr x) t (inr y) (inr z) = inr (record { value = v; stands = stand; related = record { none = z .related .none; outside = z .related .outside; inside = (y .related .members, z .related .inside) } })
       where
         v : Members
         v = version-3 (x .value) (y .value) (z .value)
@@ -193,7 +203,7 @@ module _ (longest : ℕ) (wide : 4095 ≤ longest) where
 
     members-tied : (size : ℕ) → 0 < size → size < 64 → (n : ℕ) → TiedBut (λ s p. MembersDiffer longest s size n p) NoFormat (ourMembers size n) (theirMembers size n)
     unfolding times members3 plain member
-    members-tied size l u zero = but-tied (tied-done refl)
+    members-tied size l u zero = but-tied (tied-done (record { none = refl; outside = tt; inside = tt }))
     members-tied size l u (suc n) = next (members-tied size l u n)
       where
         next : TiedBut (λ s p. MembersDiffer longest s size n p) NoFormat (ourMembers size n) (theirMembers size n)
@@ -223,14 +233,14 @@ module _ (longest : ℕ) (wide : 4095 ≤ longest) where
     compound-none h e = rw e (go (eqb (h .«class_and_version» / 16) 1))
       where
         go : (t : Bool) → TiedBut (λ s p. PropertiesDiffer longest s (theHeader h) p) SameProperties (done optionFormats.None) (bind (pick t (done no-members) (done no-members)) (λ m. done (members m)))
-        go true = but-tied (tied-done refl)
-        go false = but-tied (tied-done refl)
+        go true = but-tied (tied-done (record { format = refl; outside = λ _. tt; inside = tt }))
+        go false = but-tied (tied-done (record { format = refl; outside = λ _. tt; inside = tt }))
 
     -- members of version 3, in a compound that has a size
     compound-some : (h : DataTypeHeader) → classOf (h .«class_and_version») ≡ 6 → versionOf (h .«class_and_version») ≡ 3 → 0 < h .size → h .size < 64 → CompoundTied h
     unfolding compound
     compound-some h c v l u =
-        rw v (but-more (λ s p d. in-members c v d) (but-map members (λ f m e. e) (members-tied (h .size) l u (h .«class_bit_field» % 65536))))
+        rw v (but-more (λ s p d. in-members c v d) (but-map members (λ f m e. record { format = e .none; outside = λ _. e .outside; inside = e .inside }) (members-tied (h .size) l u (h .«class_bit_field» % 65536))))
 
     compound-tied : (h : DataTypeHeader) → classOf (h .«class_and_version») ≡ 6 → (versionOf (h .«class_and_version») ≡ 1) ⊎ (versionOf (h .«class_and_version») ≡ 3) → h .size < 64 → CompoundTied h
     compound-tied h c v u = by-le 1 (h .«class_bit_field» % 65536) (λ n. go (λ e. omega arith) v) (λ n. compound-none h (omega arith))
@@ -242,7 +252,7 @@ module _ (longest : ℕ) (wide : 4095 ≤ longest) where
     list-tied : (h : DataTypeHeader) → classOf (h .«class_and_version») ≡ 9
         → TiedBut (λ s p. PropertiesDiffer longest s (theHeader h) p) SameProperties (listProperties (dataType levels)) (bind (datatypeMessage longest levels) (λ t. done (parent-type t)))
     unfolding listProperties
-    list-tied h c = but-more differs (but-bind types (λ a b e. but-tied {D = λ _ _. ⊥} (tied-done (e .properties))))
+    list-tied h c = but-more differs (but-bind types (λ a b e. but-tied {D = λ _ _. ⊥} (tied-done (record { format = e .properties; outside = λ _. tt; inside = e .members }))))
       where
         differs : (s : List ℕ) (p : ℕ) → Either (λ s p. TypeDiffers longest s p) (datatypeMessage longest levels) (λ _ _ _. ⊥) s p → PropertiesDiffer longest s (theHeader h) p
         differs s p (in-first d) = in-parent-type c d
@@ -264,22 +274,14 @@ module _ (longest : ℕ) (wide : 4095 ≤ longest) where
         by-class (classOf (h .«class_and_version»)) (known-class h k)
         (λ e. rw e (but-tied fixed-tied))
         (λ e. rw e (but-tied float-tied))
-        (λ e. rw e (but-tied (tied-done refl)))
+        (λ e. rw e (but-tied (tied-done (record { format = refl; outside = λ _. tt; inside = tt }))))
         (λ e. rw e (compound-tied h e (one-of (versionOf (h .«class_and_version»)) 1 3 (known-version h k)) (ltb-true (h .size) 64 l)))
-        (λ e. rw e (but-tied (tied-done refl)))
+        (λ e. rw e (but-tied (tied-done (record { format = refl; outside = λ _. tt; inside = tt }))))
         (λ e. rw e (list-tied h e))
 
     -- what follows the header
     abbrev ourRest : DataTypeHeader → Format DataType
-    ourRest h =
-        bind (ours.properties h (dataType levels)) (λ data-fmt.
-        done {A = DataType} (record {
-          «class_and_version» = h .«class_and_version»;
-          «class_bit_field» = h .«class_bit_field»;
-          size = h .size;
-          «list_size» = listSize h;
-          «data_fmt» = data-fmt;
-        }))
+    ourRest h = bind (ours.properties h (dataType levels)) (λ data-fmt. done (typeOf h data-fmt))
 
     abbrev theirRest : DatatypeHeader → Format Datatype
     theirRest b = only (eqb (version b) 1 || eqb (version b) 3) (bind (properties longest (datatypeMessage longest levels) b) (λ p. done (datatype b p)))
@@ -288,9 +290,8 @@ module _ (longest : ℕ) (wide : 4095 ≤ longest) where
         → TiedBut (λ s p. PropertiesDiffer longest s (theHeader h) p) SameType (ourRest h) (theirRest (theHeader h))
     rest-tied h k l = rw (known-version h k) (but-more differs (but-bind (properties-tied h k l) (λ f p e. but-tied {D = λ _ _. ⊥} (tied-done (same f p e)))))
       where
-        same : (f : OptionDataFormat) (p : Properties) → SameProperties f p
-            → SameType (record { «class_and_version» = h .«class_and_version»; «class_bit_field» = h .«class_bit_field»; size = h .size; «list_size» = listSize h; «data_fmt» = f }) (datatype (theHeader h) p)
-        same f p e = record { class-and-version = refl; class-bit-field = refl; size = refl; list-size = refl; properties = e }
+        same : (f : OptionDataFormat) (p : Properties) → SameProperties f p → SameType (typeOf h f) (datatype (theHeader h) p)
+        same f p e = record { header = same-header h (theHeader h) f (typeOf h f) refl refl; properties = e .format; members = (e .outside (theHeader h), e .inside) }
 
         differs : (s : List ℕ) (p : ℕ) → Either (λ s p. PropertiesDiffer longest s (theHeader h) p) (properties longest (datatypeMessage longest levels) (theHeader h)) (λ _ _ _. ⊥) s p
             → PropertiesDiffer longest s (theHeader h) p
@@ -311,3 +312,13 @@ module _ (longest : ℕ) (wide : 4095 ≤ longest) where
   unfolding dataType datatypeMessage
   datatype-tied zero = record { ties = λ s p q a h. absurd h }
   datatype-tied (suc levels) = layer-tied levels (datatype-tied levels)
+
+-- Whatever its properties are, also where a difference applies: the fields of the header are the standard's.
+pub header-fields-tied : (s : List ℕ) (levels p q : ℕ) (t : DataType) → Stands s (dataType levels) p q t → HeaderStood s p t
+unfolding dataType typeLayer
+header-fields-tied s zero p q t h = absurd h
+header-fields-tied s (suc levels) p q t h =
+    let w = stands-bind s dataTypeHeader (λ h. bind (ours.properties h (dataType levels)) (λ f. done (typeOf h f))) p q t h in
+    let x = header-tied .ties s p (w .0) (w .1) (w .2) in
+    let v = stands-bind s (ours.properties (w .1) (dataType levels)) (λ f. done (typeOf (w .1) f)) (w .0) q t (w .3) in
+    record { upto = w .0; header = x .value; stands = x .stands; same = same-header (w .1) (x .value) (v .1) t (x .related .same) (v .3 .1) }
