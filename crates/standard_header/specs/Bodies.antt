@@ -1,4 +1,5 @@
--- What stands in the body of a message is the specification's message of its type. Assumes nothing.
+-- What stands in the body of a message is the specification's message of its type.
+-- Entries are those of docs/DIFFERENCES.md, part one. Assumes nothing.
 use Prim.Native.Nat.{ℕ, _≤_}
 use mathlib.Core.Path.{_≡_, refl}
 use mathlib.Core.Logic.{_⊎_}
@@ -36,11 +37,11 @@ use Rattle.standard_messages.specs.Layouts.{fill-value-old-tied, SameLayout, da
 use Rattle.standard_messages.specs.Fills.{ValidFill, FillDiffers, fill-value-tied}
 use Rattle.standard_messages.specs.Filters.{ValidPipeline, PipelineDiffers, filter-pipeline-tied}
 use Rattle.standard_datatype.specs.Differences.{TypeDiffers}
-use Rattle.standard_datatype.specs.Same.{SameType}
-use Rattle.standard_datatype.specs.Ties.{datatype-tied}
+use Rattle.standard_datatype.specs.Same.{SameType, HeaderStood}
+use Rattle.standard_datatype.specs.Ties.{datatype-tied, header-fields-tied}
 use Rattle.standard_attribute.specs.Differences.{AttributeDiffers}
-use Rattle.standard_attribute.specs.Same.{SameAttribute}
-use Rattle.standard_attribute.specs.Ties.{attribute-tied}
+use Rattle.standard_attribute.specs.Same.{SameAttribute, NameStood}
+use Rattle.standard_attribute.specs.Ties.{attribute-tied, name-tied}
 
 -- the types whose messages are read in place; 16 is the continuation
 abbrev pub readTypes : List ℕ
@@ -80,11 +81,13 @@ module _ (file : List ℕ) where
   group-info-at b q g h = group-info-tied .ties file b q g h
 
   -- `longest` is the longest name of a member that the specification's format is asked for: 4,095 bytes or more
-  abbrev pub TypeAt : ℕ → ℕ → ℕ → DataType → Type 0
-  TypeAt longest b q t = TypeDiffers longest file b ⊎ Stood SameType (datatypeMessage longest typeLevels) file b q t
+  pub record TypeAt (longest b q : ℕ) (t : DataType) : Type 0 where
+    -- class, version, class bit field and size are the specification's whatever follows them
+    pub header : HeaderStood file b t
+    pub whole : TypeDiffers longest file b ⊎ Stood SameType (datatypeMessage longest typeLevels) file b q t
 
   pub type-at : (longest : ℕ) → 4095 ≤ longest → (b q : ℕ) (t : DataType) → Stands file (dataType typeLevels) b q t → TypeAt longest b q t
-  type-at longest enough b q t h = datatype-tied longest enough typeLevels .ties file b q t h
+  type-at longest enough b q t h = record { header = header-fields-tied file typeLevels b q t h; whole = datatype-tied longest enough typeLevels .ties file b q t h }
 
   abbrev pub FillValueOldAt : ℕ → ℕ → Type 0
   FillValueOldAt b q = Stood {A = Unit {0}} (λ _ _. Unit {0}) fillValueOld file b q tt
@@ -96,8 +99,10 @@ module _ (file : List ℕ) where
   FilterPipelineAt b q = PipelineDiffers file b ⊎ Stood {A = Unit {0}} (λ _ x. ValidPipeline x) filterPipelineMessage file b q tt
 
 module _ (file : List ℕ) (s : State) (longest : ℕ) where
-  abbrev pub AttributeAt : ℕ → ℕ → Attribute → Type 0
-  AttributeAt b q a = AttributeDiffers file s longest b ⊎ Stood (SameAttribute file) (attributeMessage longest typeLevels (s .«size_of_lengths»)) file b q a
+  pub record AttributeAt (b q : ℕ) (a : Attribute) : Type 0 where
+    -- the name is the specification's whatever follows it
+    pub name : NameStood file b (a .name)
+    pub whole : AttributeDiffers file s longest b ⊎ Stood (SameAttribute file) (attributeMessage longest typeLevels (s .«size_of_lengths»)) file b q a
 
   -- BodyIs b q type kept: the message of this type stands from b to q, and what is kept of it is its record.
   -- Of the types that are not read no field is read and nothing is kept (entry 15).
@@ -149,5 +154,5 @@ module _ (file : List ℕ) (s : State) (longest : ℕ) where
     unfolding body layoutBody attributeBody
     body-is type p q k h =
         by-type type 8 p q k _ _ h (one (dataLayout s) messages.dataLayout 8 type p q k (λ m a i. data-layout a (layout-at file s p m a i))) (λ e8 h.
-        by-type type 12 p q k _ _ h (one (attribute s) messages.attribute 12 type p q k (λ m a i. attribute-message a (attribute-tied file s longest enough p m a i))) (λ e12 h.
+        by-type type 12 p q k _ _ h (one (attribute s) messages.attribute 12 type p q k (λ m a i. attribute-message a (record { name = name-tied file s p m a i; whole = attribute-tied file s longest enough p m a i }))) (λ e12 h.
         plain-is type p q k e8 e12 h))

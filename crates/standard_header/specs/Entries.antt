@@ -1,4 +1,5 @@
--- An entry as it is read is a header message of the specification, unless its fields use more bytes than its size. Assumes nothing.
+-- An entry that is read is a header message of the specification, unless its fields use more bytes than its size.
+-- Entries are those of docs/DIFFERENCES.md, part one. Assumes nothing.
 use Prim.Native.Nat.{ℕ, _+_, _-_, _≤_, _<_}
 use mathlib.Core.Path.{_≡_, refl, sym}
 use mathlib.Core.Logic.{_⊎_, inl, inr}

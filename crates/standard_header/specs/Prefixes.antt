@@ -1,4 +1,5 @@
--- The fields of a header, of an entry and of a block as they are read are those of the specification. Assumes nothing.
+-- The fields of a header, of an entry and of a block as they are read are those of the specification.
+-- Entries are those of docs/DIFFERENCES.md, part one. Assumes nothing.
 use Prim.Native.Nat.{ℕ, zero, suc, _%_, _^_, _<_}
 use mathlib.Core.Path.{_≡_, refl}
 use mathlib.Core.Bool.{Bool, true, false, not}

@@ -1,4 +1,5 @@
--- The records that a header gives are the specification's messages, each the last of its type. Assumes nothing.
+-- The records that a header gives are the specification's messages, each the last of its type.
+-- Entries are those of docs/DIFFERENCES.md, part one. Assumes nothing.
 use Prim.Native.Nat.{ℕ, _≤_}
 use mathlib.Core.Path.{_≡_, refl, sym, _∙_}
 use mathlib.Core.Logic.{_⊎_, inl, inr}

@@ -1,4 +1,5 @@
--- The dataspace as it is read is that of the specification. Assumes nothing.
+-- The dataspace as it is read is that of the specification.
+-- Entries are those of docs/DIFFERENCES.md, part one. Assumes nothing.
 use Prim.Native.Nat.{ℕ, zero, suc, _+_, _≤_, _<_}
 use mathlib.Core.Path.{_≡_, refl, sym, ap, _∙_}
 use mathlib.Core.Bool.{Bool, true, false, not, _&&_, _||_}

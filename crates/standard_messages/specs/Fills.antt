@@ -1,4 +1,5 @@
--- The fill value message as it is read is that of the specification, but for one case. Assumes nothing.
+-- The fill value message as it is read is that of the specification, but for one case.
+-- Entries are those of docs/DIFFERENCES.md, part one. Assumes nothing.
 use Prim.Native.Nat.{ℕ, _+_, _/_, _%_, _≤_, _<_}
 use mathlib.Core.Path.{_≡_, refl}
 use mathlib.Core.Logic.{_⊎_, inl, inr}

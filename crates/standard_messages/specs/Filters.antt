@@ -1,4 +1,5 @@
--- The filter pipeline as it is read is that of the specification, but for names. Assumes nothing.
+-- The filter pipeline as it is read is that of the specification, but for names.
+-- Entries are those of docs/DIFFERENCES.md, part one. Assumes nothing.
 use Prim.Native.Nat.{ℕ, _+_, _-_, _*_, _/_, _%_, _≤_, _<_}
 use mathlib.Core.Path.{_≡_, refl, ap}
 use mathlib.Core.Logic.{_⊎_, inl, inr}

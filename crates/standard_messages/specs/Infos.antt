@@ -1,4 +1,5 @@
--- Link info, group info, attribute info and the continuation as they are read are those of the specification. Assumes nothing.
+-- Link info, group info, attribute info and the continuation as they are read are those of the specification.
+-- Entries are those of docs/DIFFERENCES.md, part one. Assumes nothing.
 use Prim.Native.Nat.{_+_}
 use mathlib.Core.Path.{_≡_, refl}
 use mathlib.Core.Bool.{_&&_}

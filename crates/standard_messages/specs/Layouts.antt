@@ -1,4 +1,5 @@
--- The old fill value and the data layout as they are read are those of the specification. Assumes nothing.
+-- The old fill value and the data layout as they are read are those of the specification.
+-- Entries are those of docs/DIFFERENCES.md, part one. Assumes nothing.
 use Prim.Native.Nat.{ℕ, _<_}
 use mathlib.Core.Path.{_≡_, refl, sym, _∙_}
 use mathlib.Core.Bool.{true, false}
