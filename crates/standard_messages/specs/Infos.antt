@@ -1,21 +1,40 @@
 -- Link info, group info, attribute info and the continuation as they are read are those of the specification.
 -- Entries are those of docs/DIFFERENCES.md, part one. Assumes nothing.
-use Prim.Native.Nat.{_+_}
+use Prim.Native.Nat.{ℕ, _+_}
 use mathlib.Core.Path.{_≡_, refl}
 use mathlib.Core.Bool.{_&&_}
 use lib.Dec.{eqb, leb}
 use Rattle.format.specs.Bits.{bit}
+use Rattle.format.specs.Format.{done, number, bind, check}
 use Rattle.records.specs.declared.LinkInfo.{LinkInfo}
 use Rattle.records.specs.declared.GroupInfo.{GroupInfo}
 use Rattle.records.specs.declared.AttributeInfo.{AttributeInfo}
 use Rattle.parser.specs.declared.State.{State}
 use Rattle.parser.specs.States.{addressValid}
 use Rattle.ohdr_info.specs.declared.Continuation.{Continuation}
-use Rattle.ohdr_info.specs.Info.{linkInfo, groupInfo, attributeInfo, continuation}
+use Rattle.ohdr_info.specs.Info.{cond, linkInfo, groupInfo, attributeInfo, continuation}
+use Rattle.standard.specs.Fields.{Optional, only, optional}
 use Rattle.standard.specs.Tie.{Tied, tied-done, tied-number, tied-check, tied-only, tied-bind}
 use Rattle.standard.specs.Headers.{ContinuationMessage, continuationMessage}
 use Rattle.standard.specs.Infos.{LinkInfoMessage, linkInfoMessage, GroupInfoMessage, groupInfoMessage, AttributeInfoMessage, attributeInfoMessage}
-use Rattle.standard_messages.specs.Options.{option16, option64, orZero, tied-cond}
+use Rattle.standard_messages.specs.Options.{option16, option64, orZero, Same, tied-cond}
+
+-- flags, a maximum creation index of w bytes where bit 0 brings it, two addresses, and a third where bit 1 does
+indexed-tied : {A B : Type 0} {R : A → B → Type 0} (refusal w offsets : ℕ) (f : ℕ → ℕ → ℕ → ℕ → ℕ → A) (g : ℕ → ℕ → Optional → ℕ → ℕ → Optional → B)
+    → ((version flags n : ℕ) (index : Optional) (heap names m : ℕ) (order : Optional) → Same (bit flags 0) n index → Same (bit flags 1) m order → R (f flags n heap names m) (g version flags index heap names order))
+    → Tied R
+    (number 1 (λ version. check (eqb version 0) refusal (number 1 (λ flags. bind (cond (bit flags 0) w) (λ n. number offsets (λ heap. number offsets (λ names. bind (cond (bit flags 1) offsets) (λ m. done (f flags n heap names m)))))))))
+    (number 1 (λ version. only (eqb version 0) (number 1 (λ flags. bind (optional (bit flags 0) w) (λ index. number offsets (λ heap. number offsets (λ names. bind (optional (bit flags 1) offsets) (λ order. done (g version flags index heap names order)))))))))
+indexed-tied refusal w offsets f g same =
+    tied-number (λ version.
+    tied-check (eqb version 0) refusal (λ e.
+    tied-only (eqb version 0) e (
+    tied-number (λ flags.
+    tied-bind (tied-cond (bit flags 0) w) (λ n index i.
+    tied-number (λ heap.
+    tied-number (λ names.
+    tied-bind (tied-cond (bit flags 1) offsets) (λ m order o.
+    tied-done (same version flags n index heap names m order i o)))))))))
 
 -- IV.A.2.c; an undefined address is the number that all ones are (entry 67), reserved bits of the flags are kept (68)
 pub record SameLinkInfo (ours : LinkInfo) (theirs : LinkInfoMessage) : Type 0 where
@@ -28,21 +47,13 @@ pub record SameLinkInfo (ours : LinkInfo) (theirs : LinkInfoMessage) : Type 0 wh
 pub link-info-tied : (s : State) → Tied SameLinkInfo (linkInfo s) (linkInfoMessage (s .«size_of_offsets»))
 unfolding linkInfo linkInfoMessage
 link-info-tied s =
-    tied-number (λ version.
-    tied-check (eqb version 0) 10 (λ e.
-    tied-only (eqb version 0) e (
-    tied-number (λ flags.
-    tied-bind (tied-cond (bit flags 0) 8) (λ n index i.
-    tied-number (λ heap.
-    tied-number (λ names.
-    tied-bind (tied-cond (bit flags 1) (s .«size_of_offsets»)) (λ m order o.
-    tied-done (record {
+    indexed-tied 10 8 (s .«size_of_offsets») _ _ (λ version flags n index heap names m order i o. record {
       flags = refl;
       maximum-creation-index = i .eight;
       fractal-heap-address = refl;
       address-of-v2-b-tree-for-name-index = refl;
       address-of-v2-b-tree-for-creation-order-index = o .eight;
-    })))))))))
+    })
 
 -- IV.A.2.k; estimates that are not stored are missing (entry 69), reserved bits of the flags are kept (70)
 pub record SameGroupInfo (ours : GroupInfo) (theirs : GroupInfoMessage) : Type 0 where
@@ -82,21 +93,13 @@ pub record SameAttributeInfo (ours : AttributeInfo) (theirs : AttributeInfoMessa
 pub attribute-info-tied : (s : State) → Tied SameAttributeInfo (attributeInfo s) (attributeInfoMessage (s .«size_of_offsets»))
 unfolding attributeInfo attributeInfoMessage
 attribute-info-tied s =
-    tied-number (λ version.
-    tied-check (eqb version 0) 18 (λ e.
-    tied-only (eqb version 0) e (
-    tied-number (λ flags.
-    tied-bind (tied-cond (bit flags 0) 2) (λ n index i.
-    tied-number (λ heap.
-    tied-number (λ names.
-    tied-bind (tied-cond (bit flags 1) (s .«size_of_offsets»)) (λ m order o.
-    tied-done (record {
+    indexed-tied 18 2 (s .«size_of_offsets») _ _ (λ version flags n index heap names m order i o. record {
       flags = refl;
       maximum-creation-index = i .zero;
       fractal-heap-address = refl;
       attribute-name-v2-b-tree-address = refl;
       attribute-creation-order-v2-b-tree-address = o .zero;
-    })))))))))
+    })
 
 -- IV.A.2.q
 pub record SameContinuation (ours : Continuation) (theirs : ContinuationMessage) : Type 0 where

@@ -21,8 +21,8 @@ pub fill-value-old-tied : Tied (λ _ _. Unit {0}) fillOld fillValueOld
 unfolding fillValue fillValueOld
 fill-value-old-tied = tied-number (λ size. tied-raw (λ x e. tied-done tt))
 
--- IV.A.2.i, contiguous storage: the raw data. Where the address is 0 (entry 43), or at or past the end-of-file address (44, and 45: the undefined
--- address), none are handed out
+-- IV.A.2.i, contiguous storage: the raw data. Where the address is 0 (entry 43), or at or past the end-of-file address (44), none are handed out;
+-- the undefined address is a number like any other (45)
 pub record SameContiguous (s : State) (ours : Part) (theirs : ContiguousStorage) : Type 0 where
   pub raw-data : addressValid s (theirs .address) ≡ true → 0 < theirs .size → ours ≡ record { position = theirs .address; length = theirs .size }
   pub no-size : theirs .size ≡ 0 → ours ≡ emptyPart
