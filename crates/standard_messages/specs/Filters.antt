@@ -11,7 +11,7 @@ use lib.Dec.{eqb, leb, ltb}
 use borrow.Author.Tests.{eqb-true, eqb-false, lt-leb, ltb-true}
 use Rattle.format.specs.Bytes.{le}
 use Rattle.format.specs.BytesLaws.{by-le, le-split}
-use Rattle.format.specs.Format.{done, number, skip, bind, times, check, pick, nothing, Stands}
+use Rattle.format.specs.Format.{Format, done, number, skip, bind, times, check, pick, nothing, Stands}
 use Rattle.format.specs.Standing.{stands-bind, stands-check}
 use Rattle.ohdr_storage.specs.Storage.{paddedName, filter1, filter2, filterOf, reserved, filterPipeline}
 use Rattle.standard.specs.Fields.{absent, present, optional, raw, many}
@@ -146,38 +146,36 @@ module _ (s : List ℕ) where
   abbrev Or : ℕ → ℕ → Type 0
   Or p q = PipelineDiffers s p ⊎ Stood {A = Unit {0}} (λ _ x. ValidPipeline x) filterPipelineMessage s p q tt
 
-  -- what follows the reserved bytes of version 1: so many filters
+  -- fields, and then a list of so many filters as they say
+  listed : {X Y Z : Type 0} (P : Y → Type 0) (D : List ℕ → ℕ → Type 0) (F : Format (Unit {0})) (G : Format Y) (fields : Format X) (n : X → ℕ) (make : X → List Y → Z) → TiedBut D (λ _ y. P y) F G
+      → (p m q : ℕ) (x : X) → Stands s fields p m x → Stands s (times (n x) F nothing) m q tt
+      → Among D G s (n x) m ⊎ ((l : List Y) × Every P l × Stands s (bind fields (λ x. bind (many (n x) G) (λ l. done (make x l)))) p q (make x l))
+  listed {Y = Y} P D F G fields n make t p m q x f h = go (but-times P D F G (n x) t .ties s m q tt h)
+    where
+      go : Among D G s (n x) m ⊎ Stood {A = Unit {0}} (λ _ l. Every P l) (many (n x) G) s m q tt
+          → Among D G s (n x) m ⊎ ((l : List Y) × Every P l × Stands s (bind fields (λ x. bind (many (n x) G) (λ l. done (make x l)))) p q (make x l))
+      go (inl d) = inl d
+      go (inr y) = inr (y .value, y .related, bind-stands s fields _ p m q x (make x (y .value)) f (bind-stands s (many (n x) G) _ m q q (y .value) (make x (y .value)) (y .stands) (refl, refl)))
+
   filters1-stand : (p m q : ℕ) (x : PipelineFields1) → Stands s pipelineFields1 p m x → x .number-of-filters < 32 → x .reserved ≡ 0 → x .reserved-2 ≡ 0
       → Stands s (times (x .number-of-filters) filter1 nothing) m q tt → PipelineDiffers s p ⊎ Stood {A = Unit {0}} (λ _ y. ValidPipeline1 y) filterPipeline1 s p q tt
   unfolding filterPipeline1
-  filters1-stand p m q x f n z z2 h = go (but-times ValidFilter1 FilterDiffers1 filter1 filterDescription1 (x .number-of-filters) filter1-tied .ties s m q tt h)
+  filters1-stand p m q x f n z z2 h = go (listed ValidFilter1 FilterDiffers1 filter1 filterDescription1 pipelineFields1 (λ y. y .number-of-filters) (λ y l. record { fields = y; filter-description-list = l }) filter1-tied p m q x f h)
     where
-      go : Among FilterDiffers1 filterDescription1 s (x .number-of-filters) m ⊎ Stood {A = Unit {0}} (λ _ l. Every ValidFilter1 l) (many (x .number-of-filters) filterDescription1) s m q tt
+      go : Among FilterDiffers1 filterDescription1 s (x .number-of-filters) m ⊎ ((l : List FilterDescription1) × Every ValidFilter1 l × Stands s filterPipeline1 p q (record { fields = x; filter-description-list = l }))
           → PipelineDiffers s p ⊎ Stood {A = Unit {0}} (λ _ y. ValidPipeline1 y) filterPipeline1 s p q tt
       go (inl d) = inl (in-version-1 m x f d)
-      go (inr y) =
-          let v : FilterPipeline1 = record { fields = x; filter-description-list = y .value } in
-          inr (record {
-            value = v;
-            stands = bind-stands s pipelineFields1 _ p m q x v f (bind-stands s (many (x .number-of-filters) filterDescription1) _ m q q (y .value) v (y .stands) (refl, refl));
-            related = record { fields-valid = record { number-of-filters = omega arith; reserved = z; reserved-2 = z2 }; filters-valid = y .related };
-          })
+      go (inr y) = inr (record { value = record { fields = x; filter-description-list = y .0 }; stands = y .2; related = record { fields-valid = record { number-of-filters = omega arith; reserved = z; reserved-2 = z2 }; filters-valid = y .1 } })
 
   filters2-stand : (p m q : ℕ) (x : PipelineFields2) → Stands s pipelineFields2 p m x → x .number-of-filters < 32
       → Stands s (times (x .number-of-filters) filter2 nothing) m q tt → PipelineDiffers s p ⊎ Stood {A = Unit {0}} (λ _ y. ValidPipeline2 y) filterPipeline2 s p q tt
   unfolding filterPipeline2
-  filters2-stand p m q x f n h = go (but-times ValidFilter2 FilterDiffers2 filter2 filterDescription2 (x .number-of-filters) filter2-tied .ties s m q tt h)
+  filters2-stand p m q x f n h = go (listed ValidFilter2 FilterDiffers2 filter2 filterDescription2 pipelineFields2 (λ y. y .number-of-filters) (λ y l. record { fields = y; filter-description-list = l }) filter2-tied p m q x f h)
     where
-      go : Among FilterDiffers2 filterDescription2 s (x .number-of-filters) m ⊎ Stood {A = Unit {0}} (λ _ l. Every ValidFilter2 l) (many (x .number-of-filters) filterDescription2) s m q tt
+      go : Among FilterDiffers2 filterDescription2 s (x .number-of-filters) m ⊎ ((l : List FilterDescription2) × Every ValidFilter2 l × Stands s filterPipeline2 p q (record { fields = x; filter-description-list = l }))
           → PipelineDiffers s p ⊎ Stood {A = Unit {0}} (λ _ y. ValidPipeline2 y) filterPipeline2 s p q tt
       go (inl d) = inl (in-version-2 m x f d)
-      go (inr y) =
-          let v : FilterPipeline2 = record { fields = x; filter-description-list = y .value } in
-          inr (record {
-            value = v;
-            stands = bind-stands s pipelineFields2 _ p m q x v f (bind-stands s (many (x .number-of-filters) filterDescription2) _ m q q (y .value) v (y .stands) (refl, refl));
-            related = record { fields-valid = record { number-of-filters = omega arith }; filters-valid = y .related };
-          })
+      go (inr y) = inr (record { value = record { fields = x; filter-description-list = y .0 }; stands = y .2; related = record { fields-valid = record { number-of-filters = omega arith }; filters-valid = y .1 } })
 
   -- by the version
   whole1 : (p q : ℕ) → p + 1 ≤ length s → eqb (le s p 1) 1 ≡ true → PipelineDiffers s p ⊎ Stood {A = Unit {0}} (λ _ y. ValidPipeline1 y) filterPipeline1 s p q tt → Or p q
