@@ -1,11 +1,15 @@
 -- Bytes that the tables are read in, one example for each: their fields, widths and order, also of what nothing that is read has. Assumes nothing.
+use Prim.Native.Nat.{ℕ}
 use mathlib.Core.Path.{_≡_, refl}
-use mathlib.Core.List.{[], _∷_}
+use mathlib.Core.List.{List, [], _∷_}
+use native.Mathlib.Omega.{arith}
 use Rattle.format.specs.Bytes.{le}
 use Rattle.format.specs.Format.{found, read, bind}
+use Rattle.format.specs.Laws.{sound}
 use Rattle.standard.specs.Fields.{absent, present, optional, raw, many}
 use Rattle.standard.specs.Versions.{marked}
-use Rattle.standard.specs.Headers.{objectHeaderPrefix, messagePrefix, headerMessage, continuationMessage}
+use Rattle.standard.specs.Headers.{objectHeaderPrefix, messagePrefix, HeaderMessage, headerMessage, continuationMessage, continuationSignature}
+use Rattle.standard.specs.Chunks.{gap, next, continued, block, ObjectHeader}
 use Rattle.standard.specs.Dataspaces.{not-stored, stored, storedSizes, dataspace1, dataspace2}
 use Rattle.standard.specs.Infos.{linkInfoMessage, groupInfoMessage, attributeInfoMessage}
 use Rattle.standard.specs.Storage.{fillValueOld, not-present, size-and-fill-value, sizeAndFillValue, fillFields12, fillValue12, fillValue3, compactStorage, contiguousStorage, compact, contiguous, layoutProperties, dataLayout3}
@@ -168,3 +172,46 @@ pub a-second-filter-pipeline : read (2 ∷ 2 ∷ 255 ∷ 0 ∷ 0 ∷ 0 ∷ 1 ∷
     }) 21
 unfolding read bind le raw optional many filterFields2 filterDescription2 pipelineFields2 filterPipeline2
 a-second-filter-pipeline = refl
+
+-- a header whose first chunk has a continuation message, and whose block has a NIL message
+abbrev continuedFile : List ℕ
+continuedFile =
+    0x4F ∷ 0x48 ∷ 0x44 ∷ 0x52 ∷ 2 ∷ 0 ∷ 8
+    ∷ 16 ∷ 4 ∷ 0 ∷ 0 ∷ 19 ∷ 0 ∷ 12 ∷ 0
+    ∷ 0 ∷ 0 ∷ 0 ∷ 0
+    ∷ 0x4F ∷ 0x43 ∷ 0x48 ∷ 0x4B
+    ∷ 0 ∷ 0 ∷ 0 ∷ 0
+    ∷ 0 ∷ 0 ∷ 0 ∷ 0 ∷ []
+
+abbrev plainMessage : ℕ → ℕ → ℕ → HeaderMessage
+plainMessage type position size =
+    record {
+      prefix = record { header-message-type = type; size-of-header-message-data = size; header-message-flags = 0; header-message-creation-order = absent };
+      header-message-data = record { position = position; length = size };
+    }
+
+pub a-whole-header : ObjectHeader continuedFile 2 2 0 (plainMessage 16 11 4 ∷ plainMessage 0 27 0 ∷ [])
+unfolding read bind le optional raw objectHeaderPrefix messagePrefix headerMessage continuationMessage continuationSignature
+a-whole-header =
+    record {
+      prefix = record {
+        signature = 0x5244484F;
+        version = 2;
+        flags = 0;
+        access-time = absent;
+        modification-time = absent;
+        change-time = absent;
+        birth-time = absent;
+        maximum-number-of-compact-attributes = absent;
+        minimum-number-of-dense-attributes = absent;
+        size-of-chunk-0 = 8;
+      };
+      start = 7;
+      prefix-stands = sound continuedFile objectHeaderPrefix 0 7 _ refl;
+      chunk =
+          continued 15 (record { offset = 19; length = 12 }) (sound continuedFile (headerMessage 0) 7 15 (plainMessage 16 11 4) refl) refl
+          (sound continuedFile (continuationMessage 2 2) 11 15 _ refl)
+          (block {offset = 19} {size = 12} 23 0x4B48434F (sound continuedFile continuationSignature 19 23 _ refl) (next (sound continuedFile (headerMessage 0) 23 27 (plainMessage 0 27 0) refl) (λ e. omega arith) (gap {p = 27} {e = 27} (omega arith) (omega arith))) (omega arith))
+          (gap {p = 15} {e = 15} (omega arith) (omega arith));
+      checksum = omega arith;
+    }
