@@ -61,18 +61,19 @@ module _ (file : List ℕ) (s : State) (longest header-flags : ℕ) where
   BlockAt offset size xs = ContinuationBlock file (s .«size_of_offsets») (s .«size_of_lengths») header-flags offset size xs
 
   mutual
-    -- ChunkDiffers p e: in the chunk from p to e so many messages stand by the specification, and then a listed difference applies
+    -- ChunkDiffers p e: in the chunk from p to e so many messages stand by the specification, and where the next is due, since 4 bytes or more
+    -- are left, a listed difference applies
     pub data ChunkDiffers : ℕ → ℕ → Type 0 where
       -- a gap of 4 or 5 bytes (entry 9)
       wide-gap : {p e : ℕ} → bit header-flags 2 ≡ true → p + 4 ≤ e → e < p + 6 → ChunkDiffers p e
       -- the fields of a message use more bytes than its size says (entry 12)
-      message-past-its-size : {p e : ℕ} (q : ℕ) (m : Message) (x : MessageEntry file s header-flags p q m) → m .body + m .size < x .fields-end → ChunkDiffers p e
-      continuation-past-its-size : {p e : ℕ} (q o l : ℕ) (x : ContinuationEntry file s header-flags p q o l) → x .at + x .size < x .fields-end → ChunkDiffers p e
+      message-past-its-size : {p e : ℕ} → p + 4 ≤ e → (q : ℕ) (m : Message) (x : MessageEntry file s header-flags p q m) → m .body + m .size < x .fields-end → ChunkDiffers p e
+      continuation-past-its-size : {p e : ℕ} → p + 4 ≤ e → (q o l : ℕ) (x : ContinuationEntry file s header-flags p q o l) → x .at + x .size < x .fields-end → ChunkDiffers p e
       -- a message ends past the chunk (entry 13)
-      past-the-chunk : {p e : ℕ} (m : ℕ) (x : HeaderMessage) → Stands file (headerMessage header-flags) p m x → e < m → ChunkDiffers p e
+      past-the-chunk : {p e : ℕ} → p + 4 ≤ e → (m : ℕ) (x : HeaderMessage) → Stands file (headerMessage header-flags) p m x → e < m → ChunkDiffers p e
       -- one applies in the block of a continuation, or after a message
-      in-block : {p e : ℕ} (q o l : ℕ) → ContinuationEntry file s header-flags p q o l → BlockDiffers o l → ChunkDiffers p e
-      later : {p e : ℕ} (m : ℕ) (x : HeaderMessage) → Stands file (headerMessage header-flags) p m x → ChunkDiffers m e → ChunkDiffers p e
+      in-block : {p e : ℕ} → p + 4 ≤ e → (q o l : ℕ) → ContinuationEntry file s header-flags p q o l → BlockDiffers o l → ChunkDiffers p e
+      later : {p e : ℕ} → p + 4 ≤ e → (m : ℕ) (x : HeaderMessage) → Stands file (headerMessage header-flags) p m x → ChunkDiffers m e → ChunkDiffers p e
 
     pub data BlockDiffers : ℕ → ℕ → Type 0 where
       in-chunk : {offset size : ℕ} (start signature : ℕ) → Stands file continuationSignature offset start signature → ChunkDiffers start (offset + size - 4) → BlockDiffers offset size
@@ -115,10 +116,10 @@ module _ (file : List ℕ) (s : State) (longest header-flags : ℕ) where
     before : (e : ℕ) (xs : List HeaderMessage) → Chunk q e xs → Chunk p e (all ++ xs)
 
   abbrev Head : ℕ → ℕ → List Item → Type 0
-  Head p q is = ((e : ℕ) → ChunkDiffers p e) ⊎ EntryStands p q is
+  Head p q is = ((e : ℕ) → p + 4 ≤ e → ChunkDiffers p e) ⊎ EntryStands p q is
 
   message-head : (p q : ℕ) (m : Message) → MessageEntry file s header-flags p q m → Head p q (record { from = p; upto = q; held = message m } ∷ [])
-  message-head p q m x = by-le (x .fields-end) (m .body + m .size) (λ l. inr (whole l)) (λ l. inl (λ e. message-past-its-size q m x l))
+  message-head p q m x = by-le (x .fields-end) (m .body + m .size) (λ l. inr (whole l)) (λ l. inl (λ e d. message-past-its-size d q m x l))
     where
       whole : x .fields-end ≤ m .body + m .size → EntryStands p q (record { from = p; upto = q; held = message m } ∷ [])
       whole l =
@@ -132,8 +133,8 @@ module _ (file : List ℕ) (s : State) (longest header-flags : ℕ) where
           }
 
   continuation-head : (p q o l : ℕ) (is : List Item) → ContinuationEntry file s header-flags p q o l → BlockDiffers o l ⊎ BlockIs o l is → Head p q (record { from = p; upto = q; held = continuation o l } ∷ is)
-  continuation-head p q o l is x (inl d) = inl (λ e. in-block q o l x d)
-  continuation-head p q o l is x (inr b) = by-le (x .fields-end) (x .at + x .size) (λ h. inr (whole h)) (λ h. inl (λ e. continuation-past-its-size q o l x h))
+  continuation-head p q o l is x (inl d) = inl (λ e k. in-block k q o l x d)
+  continuation-head p q o l is x (inr b) = by-le (x .fields-end) (x .at + x .size) (λ h. inr (whole h)) (λ h. inl (λ e d. continuation-past-its-size d q o l x h))
     where
       whole : x .fields-end ≤ x .at + x .size → EntryStands p q (record { from = p; upto = q; held = continuation o l } ∷ is)
       whole h =
@@ -159,13 +160,21 @@ module _ (file : List ℕ) (s : State) (longest header-flags : ℕ) where
       go true d l = by-le (p + 4) e (λ k. inl (wide-gap d k l)) short
       go false d l = short l
 
+  -- where an entry is due a message is
+  due : (p e : ℕ) → p + prefixSize header-flags ≤ e → p + 4 ≤ e
+  due p e h = go (bit header-flags 2) h
+    where
+      go : (t : Bool) → p + pick t 6 4 ≤ e → p + 4 ≤ e
+      go true h = omega arith
+      go false h = h
+
   -- one entry more
-  one-more : (p m e q : ℕ) (is js : List Item) → Head p m is → (m ≤ e → ChunkDiffers m e ⊎ ChunkIs m e q js) → ChunkDiffers p e ⊎ ChunkIs p e q (is ++ js)
-  one-more p m e q is js (inl f) j = inl (f e)
-  one-more p m e q is js (inr x) j = by-le m e (λ l. go (j l)) (λ l. inl (past-the-chunk m (x .first) (x .stands) l))
+  one-more : (p m e q : ℕ) (is js : List Item) → p + 4 ≤ e → Head p m is → (m ≤ e → ChunkDiffers m e ⊎ ChunkIs m e q js) → ChunkDiffers p e ⊎ ChunkIs p e q (is ++ js)
+  one-more p m e q is js k (inl f) j = inl (f e k)
+  one-more p m e q is js k (inr x) j = by-le m e (λ l. go (j l)) (λ l. inl (past-the-chunk k m (x .first) (x .stands) l))
     where
       go : ChunkDiffers m e ⊎ ChunkIs m e q js → ChunkDiffers p e ⊎ ChunkIs p e q (is ++ js)
-      go (inl d) = inl (later m (x .first) (x .stands) d)
+      go (inl d) = inl (later k m (x .first) (x .stands) d)
       go (inr r) = inr (record { messages = x .all ++ r .messages; chunk = x .before e (r .messages) (r .chunk); same = same-append is js (x .all) (r .messages) (x .same) (r .same); inside = r .inside })
 
   signature-end : (p q : ℕ) → Stands file ochk p q tt → q ≡ p + 4
@@ -197,7 +206,7 @@ module _ (file : List ℕ) (s : State) (longest header-flags : ℕ) where
     pub run-is : {level p e q : ℕ} {is : List Item} → Run file (prefixSize header-flags) (StandsEntry file s header-flags) level p e q is → (p ≤ e → ChunkDiffers p e ⊎ ChunkIs p e q is) × Every ItemIs is
     run-is r = elim r as (λ level p e q is y. (p ≤ e → ChunkDiffers p e ⊎ ChunkIs p e q is) × Every ItemIs is) (λ level p q is y. Head p q is × Every ItemIs is) (λ level o l is y. (8 ≤ l → BlockDiffers o l ⊎ BlockIs o l is) × Every ItemIs is) [
       | ends {p = p} {e = e} h ↦ (λ i. at-end p e h i, tt)
-      | goes {p = p} {e = e} {m = m} {q = q} {xs = xs} {ys = ys} h (a → i) (r → j) ↦ (λ l. one-more p m e q xs ys (i .0) (j .0), every-append xs ys (i .1) (j .1))
+      | goes {p = p} {e = e} {m = m} {q = q} {xs = xs} {ys = ys} h (a → i) (r → j) ↦ (λ l. one-more p m e q xs ys (due p e h) (i .0) (j .0), every-append xs ys (i .1) (j .1))
       | is-message {p = p} {q = q} {m = m} h ↦ (let x = message-entry file s header-flags p q m h in (message-head p q m x, (message-is p q m x, tt)))
       | is-continuation {p = p} {q = q} {offset = o} {length = l} {xs = xs} h n (b → i) ↦ (
           let x = continuation-entry file s header-flags p q o l h in
