@@ -4,3 +4,4 @@ pub mod Layouts
 pub mod Fills
 pub mod Filters
 pub mod Dataspaces
+pub mod Samples
