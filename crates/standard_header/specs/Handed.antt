@@ -1,4 +1,6 @@
--- What decoding a header hands out is the specification's, field by field, or a listed difference applies. Assumes nothing.
+-- What decoding a header hands out is the specification's, field by field, or a listed difference applies: in a chunk (`ChunkDiffers`) or in the
+-- body of a message (`FillDiffers`, `PipelineDiffers`, `TypeDiffers`, `AttributeDiffers`). What the fields are compared by says the rest: `Same..`.
+-- Assumes nothing.
 use Prim.Native.Nat.{ℕ, _≤_}
 use mathlib.Core.Path.{_≡_}
 use mathlib.Core.List.{List}
@@ -9,7 +11,9 @@ use Rattle.grammar.specs.Each.{All}
 use Rattle.data_object_records.specs.declared.HeaderFields.{HeaderFields}
 use Rattle.data_object_records.specs.Headers.{Wins, stateFor}
 use Rattle.data_object_records.specs.HeaderLaws.{tableOf}
-use Rattle.data_object.specs.Decoded.{Accepted}
+use Rattle.data_object.specs.declared.Answer.the-variants as answers
+use Rattle.data_object.specs.declared.DataObject.{DataObject}
+use Rattle.data_object.specs.Decoded.{winsIn, Accepted, Decoded}
 use Rattle.standard_header.specs.Readings.{HeaderIs, reading-is, RowIs, each-message}
 use Rattle.standard_header.specs.Winning.{WinsAre, reading-wins}
 
@@ -44,3 +48,7 @@ module _ (file : List ℕ) (offsets lengths end at n longest : ℕ) where
         table = a .table;
         records = rw (a .records) (reading-wins file state longest enough (a .readable .within .reading));
       }
+
+  -- in the words of the call's contract
+  pub decoded-standard : 4095 ≤ longest → (r : DataObject) (t : List ℕ) → Decoded file offsets lengths end at n r t → (after count : ℕ) → r .answer ≡ answers.Read after count → Standard after (winsIn r) t
+  decoded-standard enough r t d after count e = accepted-standard enough (rw e at (d .meant))
