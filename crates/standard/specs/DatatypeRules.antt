@@ -1,0 +1,93 @@
+-- IV.A.2.d, The Datatype Message: what the specification asks of the values of its fields, beside their layout. Assumes nothing: these are
+-- definitions.
+use Prim.Native.Nat.{ℕ, _+_, _*_, _/_, _%_, _^_, _≤_}
+use mathlib.Core.Path.{_≡_}
+use Rattle.standard.specs.Datatypes.{DatatypeHeader, class, Member1, Datatype, datatype, headerOf, Properties, fixed-point, floating-point, no-properties, members, parent-type, Members, no-members, version-1, version-3}
+
+-- as many bits of a number as are said, from the given one on
+abbrev pub bits : ℕ → ℕ → ℕ → ℕ
+bits n low count = n / 2 ^ low % 2 ^ count
+
+-- the class bit field, by the table of bits of each class: values that are not reserved, and reserved bits that are zero
+pub record ValidClassBits (h : DatatypeHeader) : Type 0 where
+  pub fixed-point-reserved : class h ≡ 0 → bits (h .class-bit-field) 4 20 ≡ 0
+  pub floating-point-byte-order : class h ≡ 1 → bits (h .class-bit-field) 6 1 ≡ 1 → bits (h .class-bit-field) 0 1 ≡ 1
+  pub floating-point-normalization : class h ≡ 1 → bits (h .class-bit-field) 4 2 ≤ 2
+  pub floating-point-reserved : class h ≡ 1 → bits (h .class-bit-field) 7 1 ≡ 0
+  pub floating-point-reserved-high : class h ≡ 1 → bits (h .class-bit-field) 16 8 ≡ 0
+  pub string-padding-type : class h ≡ 3 → bits (h .class-bit-field) 0 4 ≤ 2
+  pub string-character-set : class h ≡ 3 → bits (h .class-bit-field) 4 4 ≤ 1
+  pub string-reserved : class h ≡ 3 → bits (h .class-bit-field) 8 16 ≡ 0
+  pub compound-reserved : class h ≡ 6 → bits (h .class-bit-field) 16 8 ≡ 0
+  pub reference-type : class h ≡ 7 → bits (h .class-bit-field) 0 4 ≤ 1
+  pub reference-reserved : class h ≡ 7 → bits (h .class-bit-field) 4 20 ≡ 0
+  pub variable-length-type : class h ≡ 9 → bits (h .class-bit-field) 0 4 ≤ 1
+  pub variable-length-padding-type : class h ≡ 9 → bits (h .class-bit-field) 4 4 ≤ 2
+  pub variable-length-character-set : class h ≡ 9 → bits (h .class-bit-field) 8 4 ≤ 1
+  pub sequence-padding-type : class h ≡ 9 → bits (h .class-bit-field) 0 4 ≡ 0 → bits (h .class-bit-field) 4 4 ≡ 0
+  pub sequence-character-set : class h ≡ 9 → bits (h .class-bit-field) 0 4 ≡ 0 → bits (h .class-bit-field) 8 4 ≡ 0
+  pub variable-length-reserved : class h ≡ 9 → bits (h .class-bit-field) 12 12 ≡ 0
+
+-- bit offset and bit precision lie within the datatype element
+abbrev pub ValidNumber : DatatypeHeader → Properties → Type 0
+ValidNumber h (fixed-point f) = f .bit-offset + f .bit-precision ≤ 8 * h .size
+ValidNumber h (floating-point f) = f .bit-offset + f .bit-precision ≤ 8 * h .size
+ValidNumber h no-properties = Unit {0}
+ValidNumber h (members m) = Unit {0}
+ValidNumber h (parent-type t) = Unit {0}
+
+-- each member lies within the datatype element, which has this size
+abbrev pub Within : ℕ → Members → Type 0
+Within size no-members = Unit {0}
+Within size (version-1 m t rest) = (m .byte-offset-of-member + headerOf t .size ≤ size) × Within size rest
+Within size (version-3 m t rest) = (m .byte-offset-of-member + headerOf t .size ≤ size) × Within size rest
+
+abbrev pub ValidMembers : DatatypeHeader → Properties → Type 0
+ValidMembers h (fixed-point f) = Unit {0}
+ValidMembers h (floating-point f) = Unit {0}
+ValidMembers h no-properties = Unit {0}
+ValidMembers h (members m) = Within (h .size) m
+ValidMembers h (parent-type t) = Unit {0}
+
+-- a member of version 1: padding of its name, reserved bytes and permutation are zero
+pub record ValidMember1 (m : Member1) : Type 0 where
+  pub name-padding : m .name-padding ≡ 0
+  pub reserved-after-dimensionality : m .reserved-after-dimensionality ≡ 0
+  pub dimension-permutation : m .dimension-permutation ≡ 0
+  pub reserved-after-permutation : m .reserved-after-permutation ≡ 0
+
+abbrev pub ValidMember1s : Members → Type 0
+ValidMember1s no-members = Unit {0}
+ValidMember1s (version-1 m t rest) = ValidMember1 m × ValidMember1s rest
+ValidMember1s (version-3 m t rest) = ValidMember1s rest
+
+abbrev pub ValidMembers1 : DatatypeHeader → Properties → Type 0
+ValidMembers1 h (fixed-point f) = Unit {0}
+ValidMembers1 h (floating-point f) = Unit {0}
+ValidMembers1 h no-properties = Unit {0}
+ValidMembers1 h (members m) = ValidMember1s m
+ValidMembers1 h (parent-type t) = Unit {0}
+
+-- P holds of the header and the properties of a datatype message and of all datatype messages inside it
+abbrev mutual
+  pub Each : (DatatypeHeader → Properties → Type 0) → Datatype → Type 0
+  Each P (datatype h p) = P h p × EachInside P p
+
+  pub EachInside : (DatatypeHeader → Properties → Type 0) → Properties → Type 0
+  EachInside P (fixed-point f) = Unit {0}
+  EachInside P (floating-point f) = Unit {0}
+  EachInside P no-properties = Unit {0}
+  EachInside P (members m) = EachMember P m
+  EachInside P (parent-type t) = Each P t
+
+  pub EachMember : (DatatypeHeader → Properties → Type 0) → Members → Type 0
+  EachMember P no-members = Unit {0}
+  EachMember P (version-1 m t rest) = Each P t × EachMember P rest
+  EachMember P (version-3 m t rest) = Each P t × EachMember P rest
+
+-- what is asked of a datatype message
+pub record ValidDatatype (t : Datatype) : Type 0 where
+  pub class-bits : Each (λ h p. ValidClassBits h) t
+  pub numbers : Each ValidNumber t
+  pub members : Each ValidMembers t
+  pub members-of-version-1 : Each ValidMembers1 t

@@ -1,0 +1,15 @@
+pub mod Fields
+pub mod Tie
+pub mod TieMore
+pub mod Versions
+pub mod Headers
+pub mod Chunks
+pub mod Dataspaces
+pub mod Infos
+pub mod Storage
+pub mod Datatypes
+pub mod DatatypeBounds
+pub mod DatatypeRules
+pub mod Attributes
+pub mod AttributeRules
+pub mod Examples

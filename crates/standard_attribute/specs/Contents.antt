@@ -1,0 +1,258 @@
+-- Datatype, dataspace and data of an attribute, as they are read and as the standard has them. Assumes nothing.
+use Prim.Native.Nat.{ℕ, _+_, _-_, _*_, _%_, _≤_, _<_}
+use mathlib.Core.Path.{_≡_, refl, sym, ap, _∙_, subst₃}
+use mathlib.Core.Logic.{_⊎_, inl, inr}
+use mathlib.Core.Bool.{Bool, true, false, _&&_}
+use mathlib.Core.List.{List, [], _∷_}
+use native.Mathlib.Omega.{arith}
+use lib.Dec.{eqb, ltb, leb}
+use lib.ListN.{length, getD, take}
+use borrow.Author.Tests.{eqb-true, eqb-false, eq-eqb, ltb-true, ltb-false, leb-false}
+use Rattle.format.specs.Bytes.{le, Trimmed}
+use Rattle.format.specs.BytesLaws.{by-le}
+use Rattle.format.specs.Format.{Format, done, number, skip, here, Stands, bind, pick}
+use Rattle.format.specs.Standing.{stands-bind, stands-check}
+use Rattle.records.specs.declared.OptionPart.{OptionPart}
+use Rattle.records.specs.declared.OptionPart.the-variants as parts
+use Rattle.records.specs.declared.DataType.{DataType}
+use Rattle.records.specs.declared.DataSpace.{DataSpace}
+use Rattle.parser.specs.declared.State.{State}
+use Rattle.ohdr_datatype.specs.DataTypes.{classOf, dataType, typeLevels}
+use Rattle.ohdr_dataspace.specs.DataSpaces as spaces
+use Rattle.ohdr_attribute.specs.Attributes.{padding, textValue, listValue, otherValue, value, spaceValue, typeSpaceValue}
+use Rattle.standard.specs.Fields.{only}
+use Rattle.standard.specs.Tie.{bind-stands, Stood}
+use Rattle.standard.specs.Datatypes.{class, Datatype, headerOf, datatypeMessage}
+use Rattle.standard.specs.Dataspaces.{Dataspace, version-1, version-2, dataspaceMessage}
+use Rattle.standard.specs.Attributes.{sized, Described, described, product, elements, rawSize}
+use Rattle.standard.specs.DatatypeRules.{Each}
+use Rattle.standard_datatype.specs.Same.{MembersOfVersion3, SameType}
+use Rattle.standard_datatype.specs.Differences.{TypeDiffers}
+use Rattle.standard_datatype.specs.Ties.{datatype-tied}
+use Rattle.standard_messages.specs.Dataspaces.{SameDataspace, dataspace-tied}
+use Rattle.standard_attribute.specs.Differences.{ElementsDiffer, scalar-with-sizes, null, ContentsDiffer, in-datatype, other-datatype-size, other-dataspace-size, other-elements, variable-length-elements, long-data}
+use Rattle.standard_attribute.specs.Same.{PaddedText, SameValue}
+
+-- a text that is ended by zeros has the length that is left without them
+pub padded-length : (s : List ℕ) (p m l n : ℕ) → Trimmed s p m l → PaddedText s (record { position = p; length = m }) n → l ≡ n
+padded-length s p m l n h i = by-le l n (λ a. by-le n l (λ b. omega arith) (λ b. absurd (i .text l b (h .zeros l (omega arith) (omega (arith, i .within)))))) (λ a. absurd (last (h .last) a))
+  where
+    last : (l ≡ 0) ⊎ (getD s (p + (l - 1)) 0 ≡ 0 → ⊥) → n < l → ⊥
+    last (inl e) a = omega arith
+    last (inr f) a = f (i .zeros (l - 1) (omega arith) (omega (arith, h .within)))
+
+module _ (s : List ℕ) where
+  -- what stands as the value is the data field of n elements, or the two differ
+  data ValueTied (class size n p q : ℕ) (v : OptionPart) : Type 0 where
+    other-lists : class ≡ 9 → (n ≡ 1 → ⊥) → ValueTied class size n p q v
+    too-long : (class ≡ 3 → ⊥) → (class ≡ 9 → ⊥) → 1048576 < n * size → ValueTied class size n p q v
+    same : p + n * size ≤ length s → p + n * size ≡ q → SameValue s v class size (record { position = p; length = n * size }) → ValueTied class size n p q v
+
+  abbrev Passed : ℕ → ℕ → ℕ → OptionPart → Type 0
+  Passed m p q v = (p + m ≤ length s) × (p + m ≡ q) × (v ≡ parts.None)
+
+  -- bytes that are passed, unless they are too many
+  other-passed : (m p q : ℕ) (v : OptionPart) → p ≤ length s → Stands s (otherValue m) p q v → (1048576 < m) ⊎ Passed m p q v
+  unfolding otherValue
+  other-passed m p q v l h = go (leb 1 m) refl (leb m 1048576) refl h
+    where
+      go : (a : Bool) → leb 1 m ≡ a → (b : Bool) → leb m 1048576 ≡ b → Stands s (pick (a && b) (skip m (done parts.None)) (done parts.None)) p q v → (1048576 < m) ⊎ Passed m p q v
+      go true e true f h = inr (h .0, h .1 .0, sym (h .1 .1))
+      go true e false f h = inl (leb-false m 1048576 f)
+      go false e b f h = let z = leb-false 1 m e in inr (omega arith, omega (arith, h .0), sym (h .1))
+
+  -- a class of which no value is handed out
+  none : (class size p m : ℕ) (v : OptionPart) → (class ≡ 3 → 0 < size → ⊥) → v ≡ parts.None → SameValue s v class size (record { position = p; length = m })
+  none class size p m v h e = record { text = λ c l. absurd (h c l); other = λ _. e }
+
+  module _ (class size n p q : ℕ) (v : OptionPart) (inside : p ≤ length s) where
+    text-tied : class ≡ 3 → 0 < size → Stands s (textValue (n * size)) p q v → ValueTied class size n p q v
+    unfolding textValue
+    text-tied c l h =
+        same (h .1 .inside) (h .2 .0)
+        (record {
+          text = λ _ _. (record { position = p; length = h .0 }, sym (h .2 .1), record { position = refl; length = h .1 }, λ k i. padded-length s p (n * size) (h .0) k (h .1) i);
+          other = λ f. absurd (f c l);
+        })
+
+    list-tied : class ≡ 9 → Stands s (listValue size) p q v → ValueTied class size n p q v
+    unfolding listValue
+    list-tied c h = go (eqb n 1) refl (stands-check s (leb size 12) 17 (skip size (done parts.None)) p q v h .1)
+      where
+        go : (t : Bool) → eqb n 1 ≡ t → Stands s (skip size (done parts.None)) p q v → ValueTied class size n p q v
+        go true e h =
+            let m : n * size ≡ size = rw (eqb-true n 1 e) (omega arith) in
+            same (rw m (h .0)) (rw m (h .1 .0)) (none class size p (n * size) v (λ d _. omega arith) (sym (h .1 .1)))
+        go false e h = other-lists c (eqb-false n 1 e)
+
+    other-tied : (class ≡ 3 → 0 < size → ⊥) → (class ≡ 9 → ⊥) → Stands s (otherValue (n * size)) p q v → ValueTied class size n p q v
+    other-tied c d h = go (other-passed (n * size) p q v inside h)
+      where
+        go : (1048576 < n * size) ⊎ Passed (n * size) p q v → ValueTied class size n p q v
+        go (inl m) = too-long (λ e. c e (by-le 1 size (λ l. l) (λ l. let z : size ≡ 0 = omega arith in let y : n * size ≡ 0 = rw z (omega arith) in absurd (omega arith)))) d m
+        go (inr w) = same (w .0) (w .1) (none class size p (n * size) v c (w .2))
+
+    value-by : Stands s (pick (eqb class 3 && ltb 0 size) (textValue (n * size)) (pick (eqb class 9) (listValue size) (otherValue (n * size)))) p q v → ValueTied class size n p q v
+    value-by h = go (eqb class 3) refl (ltb 0 size) refl (eqb class 9) refl h
+      where
+        go : (a : Bool) → eqb class 3 ≡ a → (b : Bool) → ltb 0 size ≡ b → (d : Bool) → eqb class 9 ≡ d
+            → Stands s (pick (a && b) (textValue (n * size)) (pick d (listValue size) (otherValue (n * size)))) p q v → ValueTied class size n p q v
+        go true e true f d g h = text-tied (eqb-true class 3 e) (ltb-true 0 size f) h
+        go true e false f true g h = let x = eqb-true class 3 e in let y = eqb-true class 9 g in absurd (omega arith)
+        go true e false f false g h = other-tied (λ _ l. let y = ltb-false 0 size f in omega arith) (eqb-false class 9 g) h
+        go false e b f true g h = list-tied (eqb-true class 9 g) h
+        go false e b f false g h = other-tied (λ x _. eqb-false class 3 e x) (eqb-false class 9 g) h
+
+  value-tied : (t : DataType) (n p q : ℕ) (v : OptionPart) → p ≤ length s → Stands s (value t n) p q v → ValueTied (classOf (t .«class_and_version»)) (t .size) n p q v
+  unfolding value
+  value-tied t n p q v l h = value-by (classOf (t .«class_and_version»)) (t .size) n p q v l h
+
+-- a description that ends where its size says
+sized-stands : {A : Type 0} (s : List ℕ) (n : ℕ) (F : Format A) (p q : ℕ) (a : A) → Stands s F p q a → q ≡ p + n → Stands s (sized n F) p q a
+unfolding sized
+sized-stands s n F p q a h e =
+    let i : Stands s (only (eqb q (p + n)) (done a)) q q a = rw (eq-eqb q (p + n) e) (refl, refl) in
+    bind-stands s F (λ x. here (λ upto. only (eqb upto (p + n)) (done x))) p q q a a h i
+
+-- the two products are one
+product-same : (ns : List ℕ) → spaces.product ns ≡ product ns
+unfolding spaces.product product
+product-same [] = refl
+product-same (n ∷ ns) = rw (product-same ns)
+
+-- the sizes of a dataspace of either version
+abbrev sizesOf : Dataspace → List ℕ
+sizesOf (version-1 x) = x .dimension-size
+sizesOf (version-2 x) = x .dimension-size
+
+same-sizes : (d : DataSpace) (b : Dataspace) → SameDataspace d b → take (d .«dimension_size» .count) (d .«dimension_size» .sizes) ≡ sizesOf b
+same-sizes d (version-1 x) h = h .dimension-size .size
+same-sizes d (version-2 x) h = h .dimension-size .size
+
+-- the elements are the product of the sizes
+elements-by : (b : Dataspace) → ElementsDiffer b ⊎ (product (sizesOf b) ≡ elements b)
+unfolding product
+elements-by (version-1 x) = inr refl
+elements-by (version-2 x) = go (eqb (x .type) 0) refl (eqb (x .type) 2) refl (x .dimension-size) refl
+  where
+    go : (a : Bool) → eqb (x .type) 0 ≡ a → (b : Bool) → eqb (x .type) 2 ≡ b → (ns : List ℕ) → x .dimension-size ≡ ns
+        → ElementsDiffer (version-2 x) ⊎ (product (x .dimension-size) ≡ pick a 1 (pick b 0 (product (x .dimension-size))))
+    go true e b f [] g = inr (rw g)
+    go true e b f (n ∷ ns) g = inl (scalar-with-sizes (eqb-true (x .type) 0 e) (λ d. let z = sym g ∙ d in let y : _≡_ {A = ℕ} 1 0 = ap (λ (l : List ℕ). elim l [ [] ↦ 0 | _∷_ m ms ↦ 1 ]) z in omega arith))
+    go false e true f ns g = inl (null (eqb-true (x .type) 2 f))
+    go false e false f ns g = inr refl
+
+module _ (s : List ℕ) (state : State) (longest : ℕ) (wide : 4095 ≤ longest) where
+  abbrev theTypes : Format Datatype
+  theTypes = datatypeMessage longest typeLevels
+
+  abbrev theSpaces : Format Dataspace
+  theSpaces = dataspaceMessage (state .«size_of_lengths»)
+
+  -- with a version, its padding, and the two sizes that are written
+  module _ (version : ℕ) (pad : ℕ → ℕ) (same-pad : (n : ℕ) → padding version n ≡ pad n) (datatype-size dataspace-size : ℕ) where
+    abbrev theDescribed : Format Described
+    theDescribed = described longest typeLevels (state .«size_of_lengths») pad datatype-size dataspace-size
+
+    -- datatype, dataspace and data of the standard stand from p to q, and the value is that of the data field
+    pub record Held (p q : ℕ) (v : OptionPart) : Type 0 where
+      pub contents : Described
+      pub upto : ℕ
+      pub stands : Stands s theDescribed p upto contents
+      pub inside : upto + rawSize contents ≤ length s
+      pub end : upto + rawSize contents ≡ q
+      pub members : Each MembersOfVersion3 (contents .datatype)
+      pub value : SameValue s v (class (headerOf (contents .datatype))) (headerOf (contents .datatype) .size) (record { position = upto; length = rawSize contents })
+
+    abbrev Contents : ℕ → ℕ → OptionPart → Type 0
+    Contents p q v = ContentsDiffer s state longest version pad datatype-size dataspace-size p ⊎ Held p q v
+
+    elements-same : (d : DataSpace) (b : Dataspace) → SameDataspace d b → product (sizesOf b) ≡ elements b → spaces.elements d ≡ elements b
+    elements-same d b r e = product-same (take (d .«dimension_size» .count) (d .«dimension_size» .sizes)) ∙ ap product (same-sizes d b r) ∙ e
+
+    -- the data, after both descriptions
+    data-tied : (p m q : ℕ) (x : Described) (t : DataType) (d : DataSpace) (v : OptionPart) → Stands s theDescribed p m x → SameType t (x .datatype) → SameDataspace d (x .dataspace)
+        → m ≤ length s → Stands s (value t (spaces.elements d)) m q v → Contents p q v
+    data-tied p m q x t d v h i j l k = count (elements-by (x .dataspace))
+      where
+        c : ℕ
+        c = class (headerOf (x .datatype))
+
+        size : ℕ
+        size = headerOf (x .datatype) .size
+
+        n : ℕ
+        n = elements (x .dataspace)
+
+        split : ValueTied s c size n m q v → Contents p q v
+        split (other-lists a b) = inl (variable-length-elements m x h a b)
+        split (too-long a b g) = inl (long-data m x h a b g)
+        split (same a b g) = inr (record { contents = x; upto = m; stands = h; inside = a; end = b; members = i .members; value = g })
+
+        count : ElementsDiffer (x .dataspace) ⊎ (product (sizesOf (x .dataspace)) ≡ elements (x .dataspace)) → Contents p q v
+        count (inl e) = inl (other-elements m x h e)
+        count (inr e) =
+            let w = value-tied s t (spaces.elements d) m q v l k in
+            split (subst₃ (λ (a b g : ℕ). ValueTied s a b g m q v) (ap (λ (y : ℕ). y % 16) (i .header .class-and-version)) (i .header .size) (elements-same d (x .dataspace) j e) w)
+
+    abbrev theContents : Datatype → ℕ → Dataspace → ℕ → Described
+    theContents t a d b = record { datatype = t; datatype-padding = a; dataspace = d; dataspace-padding = b }
+
+    -- datatype and dataspace, each with the size that is written and its padding
+    described-stands : (p m upto : ℕ) (b : Datatype) (x : Dataspace) → Stands s (sized datatype-size theTypes) p m b → m + pad datatype-size ≤ length s
+        → Stands s (sized dataspace-size theSpaces) (m + pad datatype-size) upto x → upto + pad dataspace-size ≤ length s
+        → Stands s theDescribed p (upto + pad dataspace-size) (theContents b (le s m (pad datatype-size)) x (le s upto (pad dataspace-size)))
+    unfolding described
+    described-stands p m upto b x h l i k =
+        bind-stands s (sized datatype-size theTypes) (λ t. number (pad datatype-size) (λ a. bind (sized dataspace-size theSpaces) (λ d. number (pad dataspace-size) (λ e. done (theContents t a d e)))))
+        p m (upto + pad dataspace-size) b (theContents b (le s m (pad datatype-size)) x (le s upto (pad dataspace-size))) h (
+          l,
+          bind-stands s (sized dataspace-size theSpaces) (λ d. number (pad dataspace-size) (λ e. done (theContents b (le s m (pad datatype-size)) d e)))
+              (m + pad datatype-size) upto (upto + pad dataspace-size) x (theContents b (le s m (pad datatype-size)) x (le s upto (pad dataspace-size))) i (k, (refl, refl)),
+        )
+
+    -- the dataspace's size is the one that is written, or not
+    space-sized : (p m upto q : ℕ) (b : Datatype) (t : DataType) (d : DataSpace) (v : OptionPart) → Stands s (sized datatype-size theTypes) p m b → SameType t b
+        → m + pad datatype-size ≤ length s → Stood SameDataspace theSpaces s (m + pad datatype-size) upto d
+        → Stands s (skip (padding version (upto - (m + pad datatype-size))) (value t (spaces.elements d))) upto q v → Contents p q v
+    space-sized p m upto q b t d v h i l x k = go (eqb upto (m + pad datatype-size + dataspace-size)) refl
+      where
+        go : (a : Bool) → eqb upto (m + pad datatype-size + dataspace-size) ≡ a → Contents p q v
+        go false e = inl (other-dataspace-size m upto b (x .value) h (x .stands) (eqb-false upto (m + pad datatype-size + dataspace-size) e))
+        go true e =
+            let g = eqb-true upto (m + pad datatype-size + dataspace-size) e in
+            let f : padding version (upto - (m + pad datatype-size)) ≡ pad dataspace-size = ap (padding version) (omega arith) ∙ same-pad dataspace-size in
+            let r : Stands s (skip (pad dataspace-size) (value t (spaces.elements d))) upto q v = rw f at k in
+            data-tied p (upto + pad dataspace-size) q (theContents b (le s m (pad datatype-size)) (x .value) (le s upto (pad dataspace-size))) t d v
+            (described-stands p m upto b (x .value) h l (sized-stands s dataspace-size theSpaces (m + pad datatype-size) upto (x .value) (x .stands) g) (r .0))
+            i (x .related) (r .0) (r .1)
+
+    -- the dataspace and what follows it, after the datatype
+    space-tied : (p m q : ℕ) (b : Datatype) (t : DataType) (v : OptionPart) → Stands s (sized datatype-size theTypes) p m b → SameType t b → m + pad datatype-size ≤ length s
+        → Stands s (spaceValue version state t) (m + pad datatype-size) q v → Contents p q v
+    unfolding spaceValue
+    space-tied p m q b t v h i l k =
+        let from = m + pad datatype-size in
+        let u = stands-bind s (spaces.dataSpace state) (λ d. here (λ r. skip (padding version (r - from)) (value t (spaces.elements d)))) from q v k in
+        space-sized p m (u .0) q b t (u .1) v h i l (dataspace-tied state .ties s from (u .0) (u .1) (u .2)) (u .3)
+
+    -- the datatype's size is the one that is written, or not
+    type-sized : (p m q : ℕ) (t : DataType) (v : OptionPart) → TypeDiffers longest s p ⊎ Stood SameType theTypes s p m t
+        → Stands s (skip (padding version (m - p)) (spaceValue version state t)) m q v → Contents p q v
+    type-sized p m q t v (inl d) k = inl (in-datatype d)
+    type-sized p m q t v (inr x) k = go (eqb m (p + datatype-size)) refl
+      where
+        go : (a : Bool) → eqb m (p + datatype-size) ≡ a → Contents p q v
+        go false e = inl (other-datatype-size m (x .value) (x .stands) (eqb-false m (p + datatype-size) e))
+        go true e =
+            let g = eqb-true m (p + datatype-size) e in
+            let f : padding version (m - p) ≡ pad datatype-size = ap (padding version) (omega arith) ∙ same-pad datatype-size in
+            let r : Stands s (skip (pad datatype-size) (spaceValue version state t)) m q v = rw f at k in
+            space-tied p m q (x .value) t v (sized-stands s datatype-size theTypes p m (x .value) (x .stands) g) (x .related) (r .0) (r .1)
+
+    -- datatype, dataspace and data that are read are the standard's, or a listed difference applies
+    pub contents-tied : (p q : ℕ) (v : OptionPart) → Stands s (typeSpaceValue version state) p q v → Contents p q v
+    unfolding typeSpaceValue
+    contents-tied p q v h =
+        let w = stands-bind s (dataType typeLevels) (λ t. here (λ m. skip (padding version (m - p)) (spaceValue version state t))) p q v h in
+        type-sized p (w .0) q (w .1) v (datatype-tied longest wide typeLevels .ties s p (w .0) (w .1) (w .2)) (w .3)

@@ -1,0 +1,1 @@
+// Specifications alone: the attribute message that is read, beside the standard's.

@@ -1,0 +1,54 @@
+-- What decoding a header hands out is the specification's, field by field, or a listed difference applies: in a chunk (`ChunkDiffers`) or in the
+-- body of a message (`FillDiffers`, `PipelineDiffers`, `TypeDiffers`, `AttributeDiffers`). What the fields are compared by says the rest: `Same..`.
+-- Assumes nothing.
+use Prim.Native.Nat.{ℕ, _≤_}
+use mathlib.Core.Path.{_≡_}
+use mathlib.Core.List.{List}
+use Rattle.parser.specs.declared.State.{State}
+use Rattle.grammar.specs.Grammar.{Item}
+use Rattle.grammar.specs.Table.{messagesOf}
+use Rattle.grammar.specs.Each.{All}
+use Rattle.data_object_records.specs.declared.HeaderFields.{HeaderFields}
+use Rattle.data_object_records.specs.Headers.{Wins, stateFor}
+use Rattle.data_object_records.specs.HeaderLaws.{tableOf}
+use Rattle.data_object.specs.declared.Answer.the-variants as answers
+use Rattle.data_object.specs.declared.DataObject.{DataObject}
+use Rattle.data_object.specs.Decoded.{winsIn, Accepted, Decoded}
+use Rattle.standard_header.specs.Readings.{HeaderIs, reading-is, RowIs, each-message}
+use Rattle.standard_header.specs.Winning.{WinsAre, reading-wins}
+
+-- Over a file, the widths of offsets and lengths, an end-of-file address, a header position and a table of so many words, which ends as t;
+-- and the longest name of a member that the specification's formats are asked for.
+module _ (file : List ℕ) (offsets lengths end at n longest : ℕ) where
+  -- the state that the widths and the end-of-file address make
+  abbrev state : State
+  state = stateFor offsets lengths end
+
+  pub record Standard (after : ℕ) (wins : Wins) (t : List ℕ) : Type 0 where
+    -- the entries of the header and of its blocks
+    pub items : List Item
+    pub fields : HeaderFields
+    -- the header's prefix, its chunks, and each entry
+    pub header : HeaderIs file state longest at after fields items
+    -- each row: type, flags, size and body position are fields of the header message that stands there, and name and part those of its body
+    pub rows : All (RowIs file state longest (header .prefix .flags)) (messagesOf items)
+    pub table : t ≡ tableOf n items
+    -- each record
+    pub records : WinsAre file state longest (messagesOf items) wins
+
+  -- of every accepted header
+  pub accepted-standard : 4095 ≤ longest → {after count : ℕ} {wins : Wins} {t : List ℕ} → Accepted file offsets lengths end at n after count wins t → Standard after wins t
+  accepted-standard enough a =
+      let h = reading-is file state longest enough (a .readable .within .reading) in
+      record {
+        items = a .items;
+        fields = a .readable .within .reading .fields;
+        header = h;
+        rows = each-message file state longest (h .prefix .flags) (a .items) (h .entries);
+        table = a .table;
+        records = rw (a .records) (reading-wins file state longest enough (a .readable .within .reading));
+      }
+
+  -- in the words of the call's contract
+  pub decoded-standard : 4095 ≤ longest → (r : DataObject) (t : List ℕ) → Decoded file offsets lengths end at n r t → (after count : ℕ) → r .answer ≡ answers.Read after count → Standard after (winsIn r) t
+  decoded-standard enough r t d after count e = accepted-standard enough (rw e at (d .meant))

@@ -1,0 +1,1 @@
+// Specifications alone: a header as it is read is that of the HDF5 File Format Specification.

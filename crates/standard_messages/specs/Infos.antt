@@ -1,0 +1,116 @@
+-- Link info, group info, attribute info and the continuation as they are read are those of the specification.
+-- Entries are those of docs/DIFFERENCES.md, part one. Assumes nothing.
+use Prim.Native.Nat.{ℕ, _+_}
+use mathlib.Core.Path.{_≡_, refl}
+use mathlib.Core.Bool.{_&&_}
+use lib.Dec.{eqb, leb}
+use Rattle.format.specs.Bits.{bit}
+use Rattle.format.specs.Format.{done, number, bind, check}
+use Rattle.records.specs.declared.LinkInfo.{LinkInfo}
+use Rattle.records.specs.declared.GroupInfo.{GroupInfo}
+use Rattle.records.specs.declared.AttributeInfo.{AttributeInfo}
+use Rattle.parser.specs.declared.State.{State}
+use Rattle.parser.specs.States.{addressValid}
+use Rattle.ohdr_info.specs.declared.Continuation.{Continuation}
+use Rattle.ohdr_info.specs.Info.{cond, linkInfo, groupInfo, attributeInfo, continuation}
+use Rattle.standard.specs.Fields.{Optional, only, optional}
+use Rattle.standard.specs.Tie.{Tied, tied-done, tied-number, tied-check, tied-only, tied-bind}
+use Rattle.standard.specs.Headers.{ContinuationMessage, continuationMessage}
+use Rattle.standard.specs.Infos.{LinkInfoMessage, linkInfoMessage, GroupInfoMessage, groupInfoMessage, AttributeInfoMessage, attributeInfoMessage}
+use Rattle.standard_messages.specs.Options.{option16, option64, orZero, Same, tied-cond}
+
+-- flags, a maximum creation index of w bytes where bit 0 brings it, two addresses, and a third where bit 1 does
+indexed-tied : {A B : Type 0} {R : A → B → Type 0} (refusal w offsets : ℕ) (f : ℕ → ℕ → ℕ → ℕ → ℕ → A) (g : ℕ → ℕ → Optional → ℕ → ℕ → Optional → B)
+    → ((version flags n : ℕ) (index : Optional) (heap names m : ℕ) (order : Optional) → Same (bit flags 0) n index → Same (bit flags 1) m order → R (f flags n heap names m) (g version flags index heap names order))
+    → Tied R
+    (number 1 (λ version. check (eqb version 0) refusal (number 1 (λ flags. bind (cond (bit flags 0) w) (λ n. number offsets (λ heap. number offsets (λ names. bind (cond (bit flags 1) offsets) (λ m. done (f flags n heap names m)))))))))
+    (number 1 (λ version. only (eqb version 0) (number 1 (λ flags. bind (optional (bit flags 0) w) (λ index. number offsets (λ heap. number offsets (λ names. bind (optional (bit flags 1) offsets) (λ order. done (g version flags index heap names order)))))))))
+indexed-tied refusal w offsets f g same =
+    tied-number (λ version.
+    tied-check (eqb version 0) refusal (λ e.
+    tied-only (eqb version 0) e (
+    tied-number (λ flags.
+    tied-bind (tied-cond (bit flags 0) w) (λ n index i.
+    tied-number (λ heap.
+    tied-number (λ names.
+    tied-bind (tied-cond (bit flags 1) offsets) (λ m order o.
+    tied-done (same version flags n index heap names m order i o)))))))))
+
+-- IV.A.2.c; an undefined address is the number that all ones are (entry 67), reserved bits of the flags are kept (68)
+pub record SameLinkInfo (ours : LinkInfo) (theirs : LinkInfoMessage) : Type 0 where
+  pub flags : ours .flags ≡ theirs .flags
+  pub maximum-creation-index : ours .«maximum_creation_index» ≡ option64 (theirs .maximum-creation-index)
+  pub fractal-heap-address : ours .«fractal_heap_address» ≡ theirs .fractal-heap-address
+  pub address-of-v2-b-tree-for-name-index : ours .«address_btree_index» ≡ theirs .address-of-v2-b-tree-for-name-index
+  pub address-of-v2-b-tree-for-creation-order-index : ours .«address_btree_order» ≡ option64 (theirs .address-of-v2-b-tree-for-creation-order-index)
+
+pub link-info-tied : (s : State) → Tied SameLinkInfo (linkInfo s) (linkInfoMessage (s .«size_of_offsets»))
+unfolding linkInfo linkInfoMessage
+link-info-tied s =
+    indexed-tied 10 8 (s .«size_of_offsets») _ _ (λ version flags n index heap names m order i o. record {
+      flags = refl;
+      maximum-creation-index = i .eight;
+      fractal-heap-address = refl;
+      address-of-v2-b-tree-for-name-index = refl;
+      address-of-v2-b-tree-for-creation-order-index = o .eight;
+    })
+
+-- IV.A.2.k; estimates that are not stored are missing (entry 69), reserved bits of the flags are kept (70)
+pub record SameGroupInfo (ours : GroupInfo) (theirs : GroupInfoMessage) : Type 0 where
+  pub flags : ours .flags ≡ theirs .flags
+  pub link-phase-change-maximum-compact-value : ours .«maximum_compact_value» ≡ option16 (theirs .link-phase-change-maximum-compact-value)
+  pub link-phase-change-minimum-dense-value : ours .«minimum_dense_value» ≡ option16 (theirs .link-phase-change-minimum-dense-value)
+  pub estimated-number-of-entries : ours .«number_of_entries» ≡ option16 (theirs .estimated-number-of-entries)
+  pub estimated-link-name-length-of-entries : ours .«length_of_entries» ≡ option16 (theirs .estimated-link-name-length-of-entries)
+
+pub group-info-tied : Tied SameGroupInfo groupInfo groupInfoMessage
+unfolding groupInfo groupInfoMessage
+group-info-tied =
+    tied-number (λ version.
+    tied-check (eqb version 0) 15 (λ e.
+    tied-only (eqb version 0) e (
+    tied-number (λ flags.
+    tied-bind (tied-cond (bit flags 0) 2) (λ n compact c.
+    tied-bind (tied-cond (bit flags 0) 2) (λ n dense d.
+    tied-bind (tied-cond (bit flags 1) 2) (λ n entries k.
+    tied-bind (tied-cond (bit flags 1) 2) (λ n names l.
+    tied-done (record {
+      flags = refl;
+      link-phase-change-maximum-compact-value = c .two;
+      link-phase-change-minimum-dense-value = d .two;
+      estimated-number-of-entries = k .two;
+      estimated-link-name-length-of-entries = l .two;
+    })))))))))
+
+-- IV.A.2.v; what is not stored is zero (entry 78), an undefined address is the number that all ones are (77), reserved bits of the flags are kept (79)
+pub record SameAttributeInfo (ours : AttributeInfo) (theirs : AttributeInfoMessage) : Type 0 where
+  pub flags : ours .flags ≡ theirs .flags
+  pub maximum-creation-index : ours .«maximum_creation_index» ≡ orZero (theirs .maximum-creation-index)
+  pub fractal-heap-address : ours .«fractal_heap_address» ≡ theirs .fractal-heap-address
+  pub attribute-name-v2-b-tree-address : ours .«attribute_name_btree» ≡ theirs .attribute-name-v2-b-tree-address
+  pub attribute-creation-order-v2-b-tree-address : ours .«attribute_creation_order_btree» ≡ orZero (theirs .attribute-creation-order-v2-b-tree-address)
+
+pub attribute-info-tied : (s : State) → Tied SameAttributeInfo (attributeInfo s) (attributeInfoMessage (s .«size_of_offsets»))
+unfolding attributeInfo attributeInfoMessage
+attribute-info-tied s =
+    indexed-tied 18 2 (s .«size_of_offsets») _ _ (λ version flags n index heap names m order i o. record {
+      flags = refl;
+      maximum-creation-index = i .zero;
+      fractal-heap-address = refl;
+      attribute-name-v2-b-tree-address = refl;
+      attribute-creation-order-v2-b-tree-address = o .zero;
+    })
+
+-- IV.A.2.q
+pub record SameContinuation (ours : Continuation) (theirs : ContinuationMessage) : Type 0 where
+  pub offset : ours .offset ≡ theirs .offset
+  pub length : ours .length ≡ theirs .length
+
+pub continuation-tied : (s : State) → Tied SameContinuation (continuation s) (continuationMessage (s .«size_of_offsets») (s .«size_of_lengths»))
+unfolding continuation continuationMessage
+continuation-tied s =
+    tied-number (λ offset.
+    tied-check (addressValid s offset) 19 (λ e.
+    tied-number (λ length.
+    tied-check (leb 8 length && leb (offset + length) (s .«end_of_file_address»)) 19 (λ d.
+    tied-done (record { offset = refl; length = refl })))))

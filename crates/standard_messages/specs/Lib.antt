@@ -1,0 +1,7 @@
+pub mod Options
+pub mod Infos
+pub mod Layouts
+pub mod Fills
+pub mod Filters
+pub mod Dataspaces
+pub mod Samples

@@ -1,0 +1,1 @@
+// Specifications alone: the messages as they are read are those of the HDF5 File Format Specification.
