@@ -1,0 +1,235 @@
+//! The port and the Rust on the same inputs, by one driver.
+//!
+//!     bench make DIRECTORY [FILE...]   writes the inputs: made ones, and the headers of real files
+//!     bench SIDE INPUT TIMES           decodes an input so many times; SIDE is port or rust
+//!     bench time INPUT                 nanoseconds a call, the best of many runs: port, then rust
+//!     bench entries INPUT              the entries of an input that both sides accept
+
+use std::hint::black_box;
+use std::path::Path;
+use std::process::ExitCode;
+use std::time::Instant;
+
+use sides::door::{self, Outcome, rust_answer, rust_data_object};
+use sides::input::{Input, put};
+use sides::port::{Outcome as PortOutcome, Port};
+use sides::real;
+
+const LEVELS: usize = 25;
+const ENTRIES: usize = 4096;
+const ATTRIBUTE: u8 = 12;
+const CONTINUATION: u8 = 16;
+/// An entry's prefix and a continuation's two numbers.
+const CONTINUATION_BYTES: usize = 4 + 8 + 8;
+
+fn entry(kind: u8, body: &[u8]) -> Vec<u8> {
+    let mut bytes = vec![kind];
+    put(&mut bytes, body.len() as u64, 2);
+    bytes.push(0);
+    bytes.extend(body);
+    bytes
+}
+
+/// Version 3, a scalar text, its name closed by a zero.
+fn attribute(number: usize) -> Vec<u8> {
+    let name = format!("Attribute{number}\0");
+    let value = format!("the text of attribute {number}");
+    let mut body = vec![3, 0];
+    put(&mut body, name.len() as u64, 2);
+    put(&mut body, 8, 2);
+    put(&mut body, 4, 2);
+    body.push(0);
+    body.extend(name.as_bytes());
+    body.extend([0x13, 0, 0, 0]);
+    put(&mut body, value.len() as u64, 4);
+    body.extend([2, 0, 0, 0]);
+    body.extend(value.as_bytes());
+    entry(ATTRIBUTE, &body)
+}
+
+fn words(first: &[u8], numbers: &[u64]) -> Vec<u8> {
+    let mut body = first.to_vec();
+    for number in numbers {
+        put(&mut body, *number, 8);
+    }
+    body
+}
+
+/// Messages as in a dataset of a SOFA file: every other one is an attribute.
+fn message(number: usize) -> Vec<u8> {
+    let double = [
+        0x11, 0x20, 0x3f, 0, 8, 0, 0, 0, 0, 0, 64, 0, 52, 11, 0, 52, 0xff, 3, 0, 0,
+    ];
+    match number % 16 {
+        1 => entry(1, &words(&[2, 2, 1, 1], &[100, 2, 100, u64::MAX])),
+        3 => entry(3, &double),
+        5 => entry(5, &[3, 10]),
+        7 => entry(8, &words(&[3, 1], &[64, 16])),
+        9 => entry(2, &words(&[0, 0], &[u64::MAX, u64::MAX])),
+        11 => entry(10, &[0, 0]),
+        13 => entry(21, &words(&[0, 0], &[u64::MAX, u64::MAX])),
+        15 => entry(0, &[0; 8]),
+        _ => attribute(number),
+    }
+}
+
+/// An entry without a body: the least that a reader can be asked for.
+fn nil(_: usize) -> Vec<u8> {
+    entry(0, &[])
+}
+
+fn input(file: Vec<u8>) -> Input {
+    Input {
+        offset_width: 8,
+        length_width: 8,
+        end_of_file: file.len() as u64,
+        position: 0,
+        file,
+    }
+}
+
+fn header(chunk: usize) -> Vec<u8> {
+    let mut file = b"OHDR\x02\x02".to_vec();
+    put(&mut file, chunk as u64, 4);
+    file
+}
+
+fn flat(messages: usize, make: fn(usize) -> Vec<u8>) -> Input {
+    let chunk: Vec<u8> = (0..messages).flat_map(make).collect();
+    let mut file = header(chunk.len());
+    file.extend(chunk);
+    file.extend([0; 4]);
+    input(file)
+}
+
+/// The messages spread over the header and 25 blocks, each of which opens the next.
+fn deep(messages: usize, make: fn(usize) -> Vec<u8>) -> Input {
+    let share = |level: usize| messages * level / (LEVELS + 1);
+    let chunks: Vec<Vec<u8>> = (0..=LEVELS)
+        .map(|level| (share(level)..share(level + 1)).flat_map(make).collect())
+        .collect();
+    let opening = |level: usize| if level < LEVELS { CONTINUATION_BYTES } else { 0 };
+    let mut file = header(chunks[0].len() + opening(0));
+    for (level, chunk) in chunks.iter().enumerate() {
+        if level > 0 {
+            file.extend(b"OCHK");
+        }
+        file.extend(chunk);
+        if level < LEVELS {
+            let next = file.len() + CONTINUATION_BYTES + 4;
+            let length = 4 + chunks[level + 1].len() + opening(level + 1) + 4;
+            let numbers = words(&[], &[next as u64, length as u64]);
+            file.extend(entry(CONTINUATION, &numbers));
+        }
+        file.extend([0; 4]);
+    }
+    input(file)
+}
+
+fn made() -> Vec<(String, Input)> {
+    let kinds: [(&str, fn(usize) -> Vec<u8>); 2] = [("messages", message), ("nil", nil)];
+    let mut inputs = Vec::new();
+    for (name, make) in kinds {
+        for count in [1, 16, 256, ENTRIES] {
+            inputs.push((format!("{name}-flat-{count}"), flat(count, make)));
+            let messages = count.min(ENTRIES - LEVELS);
+            inputs.push((format!("{name}-deep-{count}"), deep(messages, make)));
+        }
+    }
+    inputs
+}
+
+/// The headers of a real file that the Rust accepts, named by the file and their positions.
+fn real_inputs(path: &Path) -> std::io::Result<Vec<(String, Input)>> {
+    let stem = path.file_stem().unwrap_or_default().to_string_lossy();
+    let headers = real::headers(&[path.to_path_buf()])?;
+    let accepted = headers.into_iter().filter(|h| rust_data_object(h).is_some());
+    Ok(accepted
+        .map(|h| (format!("{stem}-{:05}", h.position), h))
+        .collect())
+}
+
+fn make(directory: &Path, files: &[&str]) -> std::io::Result<()> {
+    std::fs::create_dir_all(directory)?;
+    let mut inputs = made();
+    for file in files {
+        inputs.extend(real_inputs(Path::new(file))?);
+    }
+    for (name, input) in inputs {
+        std::fs::write(directory.join(name), input.to_bytes())?;
+    }
+    Ok(())
+}
+
+fn load(path: &str) -> Input {
+    let bytes = std::fs::read(path).expect("an input");
+    Input::from_bytes(&bytes).expect("18 lead bytes")
+}
+
+/// As many rows as the header has messages.
+fn port_for(input: &Input) -> Port {
+    match Port::default().answer(input) {
+        PortOutcome::Read(header) => Port::lending(header.rows.len()),
+        PortOutcome::Refused(number) => panic!("the port refuses with {number}"),
+    }
+}
+
+fn run(side: &str, input: &Input, times: usize) {
+    let mut port = port_for(input);
+    for _ in 0..times {
+        if side == "port" {
+            black_box(port.data_object(black_box(input)));
+        } else {
+            black_box(rust_data_object(black_box(input)));
+        }
+    }
+}
+
+fn best(mut call: impl FnMut()) -> u128 {
+    let mut least = u128::MAX;
+    for _ in 0..2000 {
+        let start = Instant::now();
+        call();
+        least = least.min(start.elapsed().as_nanos());
+    }
+    least
+}
+
+fn time(input: &Input) {
+    let mut port = port_for(input);
+    let ours = best(|| {
+        black_box(port.data_object(black_box(input)));
+    });
+    let theirs = best(|| {
+        black_box(rust_data_object(black_box(input)));
+    });
+    println!("{ours} {theirs}");
+}
+
+fn entries(input: &Input) {
+    door::open();
+    match rust_answer(input).outcome {
+        Outcome::Read(header) => println!("{}", header.entries),
+        _ => println!("refused"),
+    }
+}
+
+fn main() -> ExitCode {
+    let words: Vec<String> = std::env::args().skip(1).collect();
+    let words: Vec<&str> = words.iter().map(String::as_str).collect();
+    match words[..] {
+        ["make", directory, ref files @ ..] => {
+            make(Path::new(directory), files).expect("inputs are written");
+        }
+        ["time", path] => time(&load(path)),
+        ["entries", path] => entries(&load(path)),
+        [side @ ("port" | "rust"), path, times] => {
+            run(side, &load(path), times.parse().expect("a number"));
+        }
+        _ => {
+            eprintln!("usage: bench make DIRECTORY [FILE...] | port|rust INPUT TIMES | time INPUT | entries INPUT");
+            return ExitCode::from(2);
+        }
+    }
+    ExitCode::SUCCESS
+}
