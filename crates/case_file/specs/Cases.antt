@@ -74,5 +74,5 @@ module _ (P : List ℕ → List ℕ → Bool → Type 0) (s : List ℕ) where
     pub tally : Summary
     pub ran : Ran stop tally
     pub ended :
-      ((stop ≡ length s) × (r ≡ tally))
-      ⊎ ((stop < length s) × (length s < caseEnd s stop) × (r ≡ record { run = tally .run; failed = tally .failed; whole = false }))
+        ((stop ≡ length s) × (r ≡ tally))
+        ⊎ ((stop < length s) × (length s < caseEnd s stop) × (r ≡ record { run = tally .run; failed = tally .failed; whole = false }))

@@ -53,11 +53,12 @@ module _ (s : List ℕ) (at : ℕ) where
 -- and their order
 module _ {s : List ℕ} {at : ℕ} {c : Case} (h : CaseIs s at c) where
   pub case-order : (at + 4 ≤ c .«name_end») × (c .«name_end» + 4 ≤ c .«input_end») × (c .«input_end» + 4 ≤ c .end) × (c .end ≤ length s)
-  case-order =
-      (omega (arith, h .name-end, part-later s at),
-       omega (arith, h .name-end, h .input-end, part-later s (inputAt s at)),
-       omega (arith, h .input-end, h .end, part-later s (expectedAt s at)),
-       h .inside)
+  case-order = (
+    omega (arith, h .name-end, part-later s at),
+    omega (arith, h .name-end, h .input-end, part-later s (inputAt s at)),
+    omega (arith, h .input-end, h .end, part-later s (expectedAt s at)),
+    h .inside,
+  )
 
   pub input-is : take (c .«input_end» - (c .«name_end» + 4)) (drop (c .«name_end» + 4) s) ≡ partOf s (inputAt s at)
   input-is = part-is s (c .«name_end») (c .«input_end») (h .input-end ∙ ap (partEnd s) (sym (h .name-end))) ∙ ap (partOf s) (h .name-end)

@@ -56,10 +56,10 @@ module _ (s xs : List ℕ) (p : ℕ) where
     next-is t =
         record {
           meets =
-            sym (take-append-drop (p + length xs - p) (drop p s))
-            ∙ ap (λ (l : List ℕ). l ++ drop (p + length xs - p) (drop p s)) (h .0 t)
-            ∙ ap (λ (k : ℕ). xs ++ drop k (drop p s)) counts
-            ∙ ap (λ (l : List ℕ). xs ++ l) (drop-drop (length xs) p s);
+              sym (take-append-drop (p + length xs - p) (drop p s))
+              ∙ ap (λ (l : List ℕ). l ++ drop (p + length xs - p) (drop p s)) (h .0 t)
+              ∙ ap (λ (k : ℕ). xs ++ drop k (drop p s)) counts
+              ∙ ap (λ (l : List ℕ). xs ++ l) (drop-drop (length xs) p s);
         }
 
     pub next-is-not : b ≡ false → Follows s (matches.At p) matches.Differs xs
@@ -68,9 +68,10 @@ module _ (s xs : List ℕ) (p : ℕ) where
 
 -- a text that was met from the start on is all, exactly where nothing is left
 pub whole-at : (s : List ℕ) (q : ℕ) → Whole s (matches.At q) (leb (length s) q)
-whole-at s q xs f =
-    (λ h. sym (f .meets ∙ ap (λ (l : List ℕ). xs ++ l) (drop-of-length-le s (leb-true (length s) q h)) ∙ append-nil xs),
-     λ e. le-leb (length s) q (omega (arith, length-drop q s, ap length (f .meets), length-append xs (drop q s), ap length e)))
+whole-at s q xs f = (
+  λ h. sym (f .meets ∙ ap (λ (l : List ℕ). xs ++ l) (drop-of-length-le s (leb-true (length s) q h)) ∙ append-nil xs),
+  λ e. le-leb (length s) q (omega (arith, length-drop q s, ap length (f .meets), length-append xs (drop q s), ap length e)),
+)
 
 pub whole-not : (s : List ℕ) → Whole s matches.Differs false
 whole-not s xs f = (λ h. absurd (false≢true h), λ e. absurd (f .meets [] (sym e ∙ sym (append-nil xs))))

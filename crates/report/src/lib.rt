@@ -265,7 +265,13 @@ fn expect_attribute_info(expected: &[u8], from: Matched, info: AttributeInfo) ->
     let met = expect_field(expected, met, true, info.maximum_creation_index, b',');
     let met = expect_field(expected, met, true, info.fractal_heap_address, b',');
     let met = expect_field(expected, met, true, info.attribute_name_btree, b',');
-    expect_field(expected, met, true, info.attribute_creation_order_btree, b'\n')
+    expect_field(
+        expected,
+        met,
+        true,
+        info.attribute_creation_order_btree,
+        b'\n',
+    )
 }
 
 fn expect_data(expected: &[u8], from: Matched, file: &[u8], part: Part) -> Matched
