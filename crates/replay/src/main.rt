@@ -1,7 +1,7 @@
 // Replays the answers of the file `answers`, names each that fails, and says how many it ran.
 fn replay_answers(buf: &mut [u8]) {
     let n = case_file::load(b"answers", buf);
-    let s = replayer::run(&buf[..n]);
+    let s = runner::run(runner::Against::Report, &buf[..n]);
     case_file::tell_end(s.run, s.failed, s.whole);
 }
 

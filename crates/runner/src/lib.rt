@@ -1,14 +1,21 @@
-// Runs the cases of a file: of each the expected part is the listing that its input must have.
+// Runs the cases of a file, each against what is expected of its input.
 use case_file::CaseRead;
 use case_file::Step;
 use case_file::Summary;
 use case_file::case_at;
 use case_file::count;
+use replayer::replays;
 ghost use Rattle.case_file.specs.Cases.{StepIs, Tallied};
-ghost use Rattle.runner.specs.Runs.{Lists};
+ghost use Rattle.runner.specs.Runs.{Lists, Says};
+
+// What is expected of an input: its listing, or the report of its header.
+pub enum Against {
+    Listing,
+    Report,
+}
 
 // Whether an input has the listing that is expected.
-pub fn passes(input: &[u8], expected: &[u8]) -> bool
+fn lists(input: &[u8], expected: &[u8]) -> bool
     ensures { λ r. ⌜ Lists (now (input .entry)) (now (expected .entry)) r ⌝ }
 {
     let mut out = [0u8; 98304];
@@ -16,9 +23,18 @@ pub fn passes(input: &[u8], expected: &[u8]) -> bool
     check::same(&out[..n], expected)
 }
 
+fn passes(against: Against, input: &[u8], expected: &[u8]) -> bool
+    ensures { λ r. ⌜ Says against (now (input .entry)) (now (expected .entry)) r ⌝ }
+{
+    match against {
+        Against::Listing => lists(input, expected),
+        Against::Report => replays(input, expected),
+    }
+}
+
 // Runs the case at `at`.
-fn run_case(cases: &[u8], at: usize) -> Step
-    ensures { λ r. ⌜ StepIs Lists (now (cases .entry)) at r ⌝ }
+fn run_case(against: Against, cases: &[u8], at: usize) -> Step
+    ensures { λ r. ⌜ StepIs (Says against) (now (cases .entry)) at r ⌝ }
 {
     let CaseRead::Read(case) = case_at(cases, at) else {
         return Step::Damaged;
@@ -28,13 +44,13 @@ fn run_case(cases: &[u8], at: usize) -> Step
     let end = case.end;
     let a = name_end + 4;
     let b = input_end + 4;
-    let passed = passes(&cases[a..input_end], &cases[b..end]);
+    let passed = passes(against, &cases[a..input_end], &cases[b..end]);
     Step::Ran(passed, case)
 }
 
 // Runs all cases of the file, and names each that fails.
-pub fn run(cases: &[u8]) -> Summary
-    ensures { λ r. ⌜ Tallied Lists (now (cases .entry)) r ⌝ }
+pub fn run(against: Against, cases: &[u8]) -> Summary
+    ensures { λ r. ⌜ Tallied (Says against) (now (cases .entry)) r ⌝ }
 {
     let mut at = 0;
     let mut tally = Summary {
@@ -43,7 +59,7 @@ pub fn run(cases: &[u8]) -> Summary
         whole: true,
     };
     while at < cases.len() {
-        let s = run_case(cases, at);
+        let s = run_case(against, cases, at);
         let Step::Ran(passed, case) = s else {
             return Summary {
                 run: tally.run,

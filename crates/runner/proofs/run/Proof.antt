@@ -5,19 +5,19 @@ use Rattle.case_file.specs.declared.Step.the-variants as steps
 use Rattle.case_file.specs.Cases.{StepIs}
 use Rattle.case_file.specs.Laws.{case-order}
 use Rattle.case_file.specs.Runs.{Going, going-begins, going-on, tallied-whole, tallied-cut}
-use Rattle.runner.specs.Runs.{Lists}
+use Rattle.runner.specs.Runs.{Says}
 use borrow.Author.Needs.{needs}
 use Rattle.runner.proofs.run.Statement.{statement}
 use Rattle.runner.proofs.run.Tie as tie
 
 abbrev Inv-loop : tie.InvT-loop
-Inv-loop cases at₀ tally₀ at tally = Going Lists cases at tally
+Inv-loop against cases at₀ tally₀ at tally = Going (Says against) cases at tally
 
 abbrev μ-loop : tie.MeasureT-loop
-μ-loop cases at₀ tally₀ at tally = length cases - at
+μ-loop against cases at₀ tally₀ at tally = length cases - at
 
 -- the case that was run
-stepped : (c : tie.After-known-told Inv-loop μ-loop) → StepIs Lists (c .before .before .before .before .before .before .before .args .cases .now) (c .before .before .before .before .before .loop .at) (steps.Ran (c .before .s .given .0 .0) (c .before .s .given .0 .1 .0))
+stepped : (c : tie.After-known-told Inv-loop μ-loop) → StepIs (Says (c .before .before .before .before .before .before .before .args .against)) (c .before .before .before .before .before .before .before .args .cases .now) (c .before .before .before .before .before .loop .at) (steps.Ran (c .before .s .given .0 .0) (c .before .s .given .0 .1 .0))
 stepped c = rw (c .before .s .given .1) at (c .before .before .before .run-case .ensures)
 
 loop-holds : tie.Need-loop-holds Inv-loop μ-loop

@@ -4,8 +4,8 @@ use Rattle.lister.specs.Listing.{leadOut}
 use Rattle.lister.specs.Laws.{lead-inside, part-rest}
 use Rattle.replayer.specs.Laws.{few-rows, answered}
 use borrow.Author.Needs.{needs}
-use Rattle.replayer.proofs.passes.Statement.{statement}
-use Rattle.replayer.proofs.passes.Tie as tie
+use Rattle.replayer.proofs.replays.Statement.{statement}
+use Rattle.replayer.proofs.replays.Tie as tie
 
 read-lead-requires : tie.Need-read-lead-requires
 read-lead-requires c κs = search needs
@@ -52,8 +52,8 @@ ends-requires c κs = search needs
 returns-2 : tie.Need-returns-2
 returns-2 c = rw (← c .before .before .before .before .before .before .before .before .before .before .before .before .read-lead .ensures, c .before .before .before .before .before .before .before .before .before .before .lead .given .1, ← part-rest _ (c .before .before .before .before .before .before .before .before .before .before .before .before .before .before .before .args .input .now)) (answered _ (c .before .before .before .before .before .before .before .before .before .before .lead .given .0 .0) _ _ (c .before .before .before .before .data-object .ensures) _ _ _ (c .before .expect-report .ensures) (c .ends .ensures))
 
-pub passes-spec : {M : Type 1} → statement M
-passes-spec =
+pub replays-spec : {M : Type 1} → statement M
+replays-spec =
     tie.close
     (tie.spec
     read-lead-requires
