@@ -42,7 +42,7 @@ pub struct Row {
     pub part_length: u64,
 }
 
-fn read_lead(input: &[u8]) -> LeadRead
+pub fn read_lead(input: &[u8]) -> LeadRead
     ensures { λ r. ⌜ leadOut r ≡ read (now (input .entry)) leadFormat 0 ⌝ }
 {
     let ReadU8::Value(offsets, at) = le_u8(input, 0) else {
@@ -66,7 +66,7 @@ fn read_lead(input: &[u8]) -> LeadRead
     LeadRead::Read(lead, at)
 }
 
-fn row_at(table: &[u64], i: usize) -> Row
+pub fn row_at(table: &[u64], i: usize) -> Row
     requires { ⌜ i < length (now table) / 10 ⌝ }
     ensures { λ r. ⌜ r ≡ rowAt (now (table .entry)) i ⌝ }
 {

@@ -2,6 +2,8 @@
 // are expected. The first word is 0, or a refusal's number and then the only one; after a 0 stand
 // the position after the message and its fields in the record's order. A field that may be absent
 // has two words: 0 0, or 1 and its value. Sizes have five: their count, and four sizes.
+use case_file::PartEnd;
+use case_file::part_end;
 use helpers::Place;
 use helpers::ReadU8;
 use helpers::ReadU64;
@@ -39,13 +41,7 @@ use records::Refusal;
 ghost use Prim.Native.Nat.{_+_, _≤_, _<_};
 ghost use lib.ListN.{length};
 ghost use Rattle.parser.specs.States.{Widths};
-ghost use Rattle.message_runner.specs.Runs.{PartIn, StepIn};
-
-// Where a part of the file of cases ends.
-pub enum Part {
-    Ends(usize),
-    Damaged,
-}
+ghost use Rattle.message_runner.specs.Runs.{StepIn};
 
 // A case that was run: whether it passed, and where the next one begins.
 pub enum Step {
@@ -402,7 +398,7 @@ fn continuation(file: &[u8], at: usize, state: State, out: &mut [u64; 32]) -> us
 }
 
 // The row of the message of a type at a position, and how many words it has.
-pub fn row(kind: u8, file: &[u8], at: usize, state: State, out: &mut [u64; 32]) -> usize
+fn row(kind: u8, file: &[u8], at: usize, state: State, out: &mut [u64; 32]) -> usize
     requires { ⌜ Widths state ⌝ }
     ensures { λ n. ⌜ n ≤ 32 ⌝ }
 {
@@ -479,7 +475,7 @@ fn lead_of(input: &[u8]) -> LeadRead {
 }
 
 // Whether the reader answers the input with the words that are expected.
-pub fn passes(input: &[u8], expected: &[u8]) -> bool {
+fn passes(input: &[u8], expected: &[u8]) -> bool {
     if input.len() < 19 {
         return false;
     }
@@ -494,42 +490,15 @@ pub fn passes(input: &[u8], expected: &[u8]) -> bool {
     same_words(&words, n, expected)
 }
 
-fn wide(b: u8) -> usize
-    ensures { λ r. ⌜ r < 256 ⌝ }
-{
-    b as usize
-}
-
-// Where the part at `at` ends. Its length stands before it in 4 bytes.
-fn part_end(cases: &[u8], at: usize) -> Part
-    ensures { λ r. ⌜ PartIn r at (now (cases .entry)) ⌝ }
-{
-    if cases.len() < at {
-        return Part::Damaged;
-    }
-    if cases.len() - at < 4 {
-        return Part::Damaged;
-    }
-    let len = wide(cases[at])
-        + 256 * wide(cases[at + 1])
-        + 65536 * wide(cases[at + 2])
-        + 16777216 * wide(cases[at + 3]);
-    let start = at + 4;
-    if cases.len() - start < len {
-        return Part::Damaged;
-    }
-    Part::Ends(start + len)
-}
-
 // Runs the case at `at`: a part with its input, then one with its words.
 pub fn run_case(cases: &[u8], at: usize) -> Step
     requires { ⌜ at < length (now cases) ⌝ }
     ensures { λ r. ⌜ StepIn r at (now (cases .entry)) ⌝ }
 {
-    let Part::Ends(middle) = part_end(cases, at) else {
+    let PartEnd::At(middle) = part_end(cases, at) else {
         return Step::Damaged;
     };
-    let Part::Ends(end) = part_end(cases, middle) else {
+    let PartEnd::At(end) = part_end(cases, middle) else {
         return Step::Damaged;
     };
     let a = at + 4;

@@ -1,18 +1,18 @@
--- What the runner's answers say. Assumes nothing: these are definitions.
-use Prim.Native.Nat.{ℕ, _+_, _≤_, _<_}
+-- What it says that a case passed. Assumes nothing: these are definitions.
+use Prim.Native.Nat.{ℕ}
+use mathlib.Core.Path.{_≡_}
+use mathlib.Core.Bool.{Bool, true}
 use mathlib.Core.List.{List}
-use lib.ListN.{length}
-use Rattle.runner.specs.declared.Part.{Part}
-use Rattle.runner.specs.declared.Part.the-variants as part
-use Rattle.runner.specs.declared.Step.{Step}
-use Rattle.runner.specs.declared.Step.the-variants as step
+use Rattle.replayer.specs.Replays.{Replays}
+use Rattle.runner.specs.declared.Against.{Against}
+use Rattle.runner.specs.declared.Against.the-variants as againsts
+use Rattle.lister.specs.Listing.{listingOf}
 
--- a part's end lies past its length bytes, and within the data
-abbrev pub PartIn : Part → ℕ → List ℕ → Type 0
-PartIn (part.Ends e) at s = (at + 4 ≤ e) × (e ≤ length s)
-PartIn part.Damaged at s = Unit {0}
+-- the input's listing is what is expected
+abbrev pub Lists : List ℕ → List ℕ → Bool → Type 0
+Lists input expected b = (b ≡ true → listingOf input ≡ expected) × (listingOf input ≡ expected → b ≡ true)
 
--- and a case's name stands at its start
-abbrev pub StepIn : Step → ℕ → List ℕ → Type 0
-StepIn (step.Ran ok e q) at s = (at + 4 ≤ e) × (e < q) × (q ≤ length s)
-StepIn step.Damaged at s = Unit {0}
+-- by what is expected
+abbrev pub Says : Against → List ℕ → List ℕ → Bool → Type 0
+Says againsts.Listing input expected b = Lists input expected b
+Says againsts.Report input expected b = Replays input expected b

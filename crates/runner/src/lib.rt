@@ -1,116 +1,76 @@
-// Runs the cases of a file: each a name, an input and the listing that it must have, each of these
-// with its length in 4 bytes before it.
-ghost use mathlib.Core.Path.{_≡_};
-ghost use mathlib.Core.Bool.{true};
-ghost use Prim.Native.Nat.{_+_, _*_, _≤_, _<_};
-ghost use lib.ListN.{length};
-ghost use Rattle.lister.specs.Listing.{listingOf};
-ghost use Rattle.runner.specs.Runs.{PartIn, StepIn};
+// Runs the cases of a file, each against what is expected of its input.
+use case_file::CaseRead;
+use case_file::Step;
+use case_file::Summary;
+use case_file::case_at;
+use case_file::count;
+use replayer::replays;
+ghost use Rattle.case_file.specs.Cases.{StepIs, Tallied};
+ghost use Rattle.runner.specs.Runs.{Lists, Says};
 
-pub enum Part {
-    Ends(usize),
-    Damaged,
-}
-
-// Whether a case passed, where its name ends, and where the case ends.
-pub enum Step {
-    Ran(bool, usize, usize),
-    Damaged,
-}
-
-pub struct Summary {
-    pub run: u64,
-    pub failed: u64,
-    pub whole: bool,
-}
-
-fn wide(b: u8) -> usize
-    ensures { λ r. ⌜ r < 256 ⌝ }
-{
-    b as usize
-}
-
-// Where the part at `at` ends.
-fn part_end(cases: &[u8], at: usize) -> Part
-    ensures { λ r. ⌜ PartIn r at (now (cases .entry)) ⌝ }
-{
-    if cases.len() < at {
-        return Part::Damaged;
-    }
-    if cases.len() - at < 4 {
-        return Part::Damaged;
-    }
-    let len = wide(cases[at])
-        + 256 * wide(cases[at + 1])
-        + 65536 * wide(cases[at + 2])
-        + 16777216 * wide(cases[at + 3]);
-    let start = at + 4;
-    if cases.len() - start < len {
-        return Part::Damaged;
-    }
-    Part::Ends(start + len)
+// What is expected of an input: its listing, or the report of its header.
+pub enum Against {
+    Listing,
+    Report,
 }
 
 // Whether an input has the listing that is expected.
-pub fn passes(input: &[u8], expected: &[u8]) -> bool
-    ensures { λ r. ⌜ (r ≡ true → listingOf (now (input .entry)) ≡ now (expected .entry)) × (listingOf (now (input .entry)) ≡ now (expected .entry) → r ≡ true) ⌝ }
+fn lists(input: &[u8], expected: &[u8]) -> bool
+    ensures { λ r. ⌜ Lists (now (input .entry)) (now (expected .entry)) r ⌝ }
 {
     let mut out = [0u8; 98304];
     let n = lister::list(input, &mut out);
     check::same(&out[..n], expected)
 }
 
-// Runs the case at `at`.
-fn run_case(cases: &[u8], at: usize) -> Step
-    requires { ⌜ at < length (now cases) ⌝ }
-    ensures { λ r. ⌜ StepIn r at (now (cases .entry)) ⌝ }
+fn passes(against: Against, input: &[u8], expected: &[u8]) -> bool
+    ensures { λ r. ⌜ Says against (now (input .entry)) (now (expected .entry)) r ⌝ }
 {
-    let Part::Ends(named) = part_end(cases, at) else {
-        return Step::Damaged;
-    };
-    let Part::Ends(middle) = part_end(cases, named) else {
-        return Step::Damaged;
-    };
-    let Part::Ends(end) = part_end(cases, middle) else {
-        return Step::Damaged;
-    };
-    let a = named + 4;
-    let b = middle + 4;
-    let ok = passes(&cases[a..middle], &cases[b..end]);
-    Step::Ran(ok, named, end)
+    match against {
+        Against::Listing => lists(input, expected),
+        Against::Report => replays(input, expected),
+    }
 }
 
-fn name_failed(name: &[u8]) {
-    io::write_all(1, b"failed: ");
-    io::write_all(1, name);
-    io::write_all(1, b"\n");
+// Runs the case at `at`.
+fn run_case(against: Against, cases: &[u8], at: usize) -> Step
+    ensures { λ r. ⌜ StepIs (Says against) (now (cases .entry)) at r ⌝ }
+{
+    let CaseRead::Read(case) = case_at(cases, at) else {
+        return Step::Damaged;
+    };
+    let name_end = case.name_end;
+    let input_end = case.input_end;
+    let end = case.end;
+    let a = name_end + 4;
+    let b = input_end + 4;
+    let passed = passes(against, &cases[a..input_end], &cases[b..end]);
+    Step::Ran(passed, case)
 }
 
 // Runs all cases of the file, and names each that fails.
-pub fn run(cases: &[u8]) -> Summary {
+pub fn run(against: Against, cases: &[u8]) -> Summary
+    ensures { λ r. ⌜ Tallied (Says against) (now (cases .entry)) r ⌝ }
+{
     let mut at = 0;
-    let mut run: u64 = 0;
-    let mut failed: u64 = 0;
+    let mut tally = Summary {
+        run: 0,
+        failed: 0,
+        whole: true,
+    };
     while at < cases.len() {
-        let s = run_case(cases, at);
-        let Step::Ran(ok, named, next) = s else {
+        let s = run_case(against, cases, at);
+        let Step::Ran(passed, case) = s else {
             return Summary {
-                run,
-                failed,
+                run: tally.run,
+                failed: tally.failed,
                 whole: false,
             };
         };
-        if !ok {
-            let start = at + 4;
-            name_failed(&cases[start..named]);
-            failed += 1;
-        }
-        run += 1;
-        at = next;
+        let start = at + 4;
+        let name_end = case.name_end;
+        tally = count(tally, passed, &cases[start..name_end]);
+        at = case.end;
     }
-    Summary {
-        run,
-        failed,
-        whole: true,
-    }
+    tally
 }

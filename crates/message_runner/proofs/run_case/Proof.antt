@@ -1,12 +1,17 @@
-use Rattle.message_runner.specs.Runs.{PartIn}
-use Rattle.message_runner.specs.declared.Part.the-variants as part
+use Prim.Native.Nat.{_+_, _≤_}
+use lib.ListN.{length}
+use native.Mathlib.Omega.{arith}
+use Rattle.case_file.specs.Laws.{part-later}
 use borrow.Author.Needs.{needs}
 use Rattle.message_runner.proofs.run_case.Statement.{statement}
 use Rattle.message_runner.proofs.run_case.Tie as tie
 
 -- both parts lie in the file, one after the other
-ends : (c : tie.After-known-told2) → PartIn (part.Ends (c .before .before .before .before .before .middle .given .0 .0)) (c .before .before .before .before .before .before .before .before .before .args .at) (c .before .before .before .before .before .before .before .before .before .args .cases .now) × PartIn (part.Ends (c .before .end .given .0 .0)) (c .before .before .before .before .before .middle .given .0 .0) (c .before .before .before .before .before .before .before .before .before .args .cases .now)
-ends c = (rw (c .before .before .before .before .before .middle .given .1) at (c .before .before .before .before .before .before .before .part-end .ensures), rw (c .before .end .given .1) at (c .before .before .before .part-end2 .ensures))
+ends : (c : tie.After-known-told2) → (c .before .before .before .before .before .before .before .before .before .args .at + 4 ≤ c .before .before .before .before .before .middle .given .0 .0) × (c .before .before .before .before .before .middle .given .0 .0 + 4 ≤ c .before .end .given .0 .0) × (c .before .end .given .0 .0 ≤ length (c .before .before .before .before .before .before .before .before .before .args .cases .now))
+ends c =
+    let m = rw (c .before .before .before .before .before .middle .given .1) at (c .before .before .before .before .before .before .before .part-end .ensures) in
+    let e = rw (c .before .end .given .1) at (c .before .before .before .part-end2 .ensures) in
+    (omega (arith, m .0, part-later (c .before .before .before .before .before .before .before .before .before .args .cases .now) (c .before .before .before .before .before .before .before .before .before .args .at)), omega (arith, e .0, part-later (c .before .before .before .before .before .before .before .before .before .args .cases .now) (c .before .before .before .before .before .middle .given .0 .0)), e .1)
 
 part-end-requires : tie.Need-part-end-requires
 part-end-requires c κs = search needs

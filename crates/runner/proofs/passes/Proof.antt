@@ -1,24 +1,25 @@
-use mathlib.Core.Path.{sym, _∙_}
 use borrow.Author.Needs.{needs}
 use Rattle.runner.proofs.passes.Statement.{statement}
 use Rattle.runner.proofs.passes.Tie as tie
 
-list-requires : tie.Need-list-requires
-list-requires c κs = search needs
+enum-told : tie.Need-enum-told
+enum-told c = search needs
 
-array-share-prefix-out : tie.Need-array-share-prefix-out
-array-share-prefix-out c = search needs
+lists-requires : tie.Need-lists-requires
+lists-requires c κs = search needs
 
-slice-aggregate-same : tie.Need-slice-aggregate-same
-slice-aggregate-same c = search needs
+enum-told-2 : tie.Need-enum-told-2
+enum-told-2 c = search needs
 
-same-requires : tie.Need-same-requires
-same-requires c κs = search needs
+replays-requires : tie.Need-replays-requires
+replays-requires c κs = search needs
 
 returns : tie.Need-returns
-returns c = (λ h. sym (c .before .before .list .ensures .1) ∙ c .same .ensures .0 h, λ h. c .same .ensures .1 (c .before .before .list .ensures .1 ∙ h))
+returns c = rw (c .before .enum-told .given .1) (c .lists .ensures)
+
+returns-2 : tie.Need-returns-2
+returns-2 c = rw (c .before .enum-told2 .given .1) (c .replays .ensures)
 
 pub passes-spec : {M : Type 1} → statement M
 passes-spec =
-    tie.close
-    (tie.spec list-requires array-share-prefix-out slice-aggregate-same same-requires returns)
+    tie.close (tie.spec enum-told lists-requires enum-told-2 replays-requires returns returns-2)

@@ -1,19 +1,27 @@
-use borrow.Author.Needs.{needs}
-use Prim.Native.Nat.{_≤_, _-_}
+use Prim.Native.Nat.{_-_}
 use native.Mathlib.Omega.{arith}
-use mathlib.Core.Logic.{⊎-elim}
 use lib.ListN.{length}
+use Rattle.case_file.specs.declared.Step.the-variants as steps
+use Rattle.case_file.specs.Cases.{StepIs}
+use Rattle.case_file.specs.Laws.{case-order}
+use Rattle.case_file.specs.Runs.{Going, going-begins, going-on, tallied-whole, tallied-cut}
+use Rattle.runner.specs.Runs.{Says}
+use borrow.Author.Needs.{needs}
 use Rattle.runner.proofs.run.Statement.{statement}
 use Rattle.runner.proofs.run.Tie as tie
 
 abbrev Inv-loop : tie.InvT-loop
-Inv-loop cases at₀ run₀ failed₀ at run failed = (at ≤ length cases) × (run ≤ at) × (failed ≤ run)
+Inv-loop against cases at₀ tally₀ at tally = Going (Says against) cases at tally
 
 abbrev μ-loop : tie.MeasureT-loop
-μ-loop cases at₀ run₀ failed₀ at run failed = length cases - at
+μ-loop against cases at₀ tally₀ at tally = length cases - at
+
+-- the case that was run
+stepped : (c : tie.After-known-told Inv-loop μ-loop) → StepIs (Says (c .before .before .before .before .before .before .before .args .against)) (c .before .before .before .before .before .before .before .args .cases .now) (c .before .before .before .before .before .loop .at) (steps.Ran (c .before .s .given .0 .0) (c .before .s .given .0 .1 .0))
+stepped c = rw (c .before .s .given .1) at (c .before .before .before .run-case .ensures)
 
 loop-holds : tie.Need-loop-holds Inv-loop μ-loop
-loop-holds c = search needs
+loop-holds c = going-begins _ _
 
 run-case-requires : tie.Need-run-case-requires Inv-loop μ-loop
 run-case-requires c κs = search needs
@@ -25,37 +33,31 @@ enum-told : tie.Need-enum-told Inv-loop μ-loop
 enum-told c = search needs
 
 returns : tie.Need-returns Inv-loop μ-loop
-returns c = search needs
+returns c = tallied-cut _ _ (c .before .before .before .before .loop .inv) (c .before .before .before .loop-test .taken) (rw (c .enum-told .given .1) at (c .before .before .run-case .ensures))
 
 add-start : tie.Need-add-start Inv-loop μ-loop
-add-start c = let e = rw (c .before .before .s .given .1) at (c .before .before .before .before .run-case .ensures) in search needs
+add-start c = let o = case-order (stepped c .0) in search needs
 
-sub-name-failed : tie.Need-sub-name-failed Inv-loop μ-loop
-sub-name-failed c = let e = rw (c .before .before .s .given .1) at (c .before .before .before .before .run-case .ensures) in search needs
+sub-count : tie.Need-sub-count Inv-loop μ-loop
+sub-count c = let o = case-order (stepped c .0) in search needs
 
-part-name-failed-start : tie.Need-part-name-failed-start Inv-loop μ-loop
-part-name-failed-start c = let e = rw (c .before .before .s .given .1) at (c .before .before .before .before .run-case .ensures) in search needs
+part-count-start : tie.Need-part-count-start Inv-loop μ-loop
+part-count-start c = let o = case-order (stepped c .0) in search needs
 
-part-name-failed-end : tie.Need-part-name-failed-end Inv-loop μ-loop
-part-name-failed-end c = let e = rw (c .before .before .s .given .1) at (c .before .before .before .before .run-case .ensures) in search needs
+part-count-end : tie.Need-part-count-end Inv-loop μ-loop
+part-count-end c = let o = case-order (stepped c .0) in search needs
 
-name-failed-requires : tie.Need-name-failed-requires Inv-loop μ-loop
-name-failed-requires c κs = search needs
-
-add-failed : tie.Need-add-failed Inv-loop μ-loop
-add-failed c = let e = rw (c .before .before .before .before .s .given .1) at (c .before .before .before .before .before .before .run-case .ensures) in search needs
-
-add-run : tie.Need-add-run Inv-loop μ-loop
-add-run c = let e = rw (c .before .before .s .given .1) at (c .before .before .before .before .run-case .ensures) in search needs
+count-requires : tie.Need-count-requires Inv-loop μ-loop
+count-requires c κs = let g = c .before .before .before .before .before .before .loop .inv in (omega (arith, g .run), g .failed)
 
 loop-less : tie.Need-loop-less Inv-loop μ-loop
-loop-less c = let e = rw (c .before .before .s .given .1) at (c .before .before .before .before .run-case .ensures) in search needs
+loop-less c = let o = case-order (stepped (c .before .before) .0) in search needs
 
 loop-again : tie.Need-loop-again Inv-loop μ-loop
-loop-again c = let e = rw (c .before .before .s .given .1) at (c .before .before .before .before .run-case .ensures) in (search needs, search needs, ⊎-elim (λ w. omega arith) (λ w. omega arith) (c .if1 .came))
+loop-again c = rw (c .count .ensures) (going-on _ _ (c .before .before .before .before .before .before .before .loop .inv) (stepped (c .before .before)))
 
 returns-2 : tie.Need-returns-2 Inv-loop μ-loop
-returns-2 c = search needs
+returns-2 c = tallied-whole _ _ (c .before .loop .inv) (omega arith)
 
 pub run-spec : {M : Type 1} → statement M
 run-spec =
@@ -69,12 +71,10 @@ run-spec =
     enum-told
     returns
     add-start
-    sub-name-failed
-    part-name-failed-start
-    part-name-failed-end
-    name-failed-requires
-    add-failed
-    add-run
+    sub-count
+    part-count-start
+    part-count-end
+    count-requires
     loop-less
     loop-again
     returns-2)

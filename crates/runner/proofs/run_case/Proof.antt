@@ -1,89 +1,63 @@
+use Rattle.case_file.specs.Cases.{CaseIs}
+use Rattle.case_file.specs.Laws.{case-order, input-is, expected-is}
 use borrow.Author.Needs.{needs}
 use Rattle.runner.proofs.run_case.Statement.{statement}
 use Rattle.runner.proofs.run_case.Tie as tie
 
-part-end-requires : tie.Need-part-end-requires
-part-end-requires c κs = search needs
+-- the parts that were found
+parts : (c : tie.After-known-told) → CaseIs (c .before .before .before .before .before .args .cases .now) (c .before .before .before .before .before .args .at) (c .before .case .given .0 .0)
+parts c = rw (c .before .case .given .1) at (c .before .before .before .case-at .ensures)
 
-enum-known-named : tie.Need-enum-known-named
-enum-known-named c = search needs
+case-at-requires : tie.Need-case-at-requires
+case-at-requires c κs = search needs
+
+enum-known-case : tie.Need-enum-known-case
+enum-known-case c = search needs
 
 enum-told : tie.Need-enum-told
 enum-told c = search needs
 
 returns : tie.Need-returns
-returns c = search needs
-
-part-end-requires-2 : tie.Need-part-end-requires-2
-part-end-requires-2 c κs = search needs
-
-enum-known-middle : tie.Need-enum-known-middle
-enum-known-middle c = search needs
-
-enum-told-2 : tie.Need-enum-told-2
-enum-told-2 c = search needs
-
-returns-2 : tie.Need-returns-2
-returns-2 c = search needs
-
-part-end-requires-3 : tie.Need-part-end-requires-3
-part-end-requires-3 c κs = search needs
-
-enum-known-end : tie.Need-enum-known-end
-enum-known-end c = search needs
-
-enum-told-3 : tie.Need-enum-told-3
-enum-told-3 c = search needs
-
-returns-3 : tie.Need-returns-3
-returns-3 c = search needs
+returns c = rw (c .enum-told .given .1) at (c .before .before .case-at .ensures)
 
 add-a : tie.Need-add-a
-add-a c = let n = rw (c .before .before .before .before .before .before .before .before .before .named .given .1) at (c .before .before .before .before .before .before .before .before .before .before .before .part-end .ensures) in let m = rw (c .before .before .before .before .before .middle .given .1) at (c .before .before .before .before .before .before .before .part-end2 .ensures) in let e = rw (c .before .end .given .1) at (c .before .before .before .part-end3 .ensures) in search needs
+add-a c = let o = case-order (parts c) in search needs
 
 add-b : tie.Need-add-b
-add-b c = let n = rw (c .before .before .before .before .before .before .before .before .before .named .given .1) at (c .before .before .before .before .before .before .before .before .before .before .before .part-end .ensures) in let m = rw (c .before .before .before .before .before .middle .given .1) at (c .before .before .before .before .before .before .before .part-end2 .ensures) in let e = rw (c .before .end .given .1) at (c .before .before .before .part-end3 .ensures) in search needs
+add-b c = let o = case-order (parts c) in search needs
 
 sub-passes : tie.Need-sub-passes
-sub-passes c = let n = rw (c .before .before .before .before .before .before .before .before .before .named .given .1) at (c .before .before .before .before .before .before .before .before .before .before .before .part-end .ensures) in let m = rw (c .before .before .before .before .before .middle .given .1) at (c .before .before .before .before .before .before .before .part-end2 .ensures) in let e = rw (c .before .end .given .1) at (c .before .before .before .part-end3 .ensures) in search needs
+sub-passes c = let o = case-order (parts c) in search needs
 
 part-passes-start : tie.Need-part-passes-start
-part-passes-start c = let n = rw (c .before .before .before .before .before .before .before .before .before .named .given .1) at (c .before .before .before .before .before .before .before .before .before .before .before .part-end .ensures) in let m = rw (c .before .before .before .before .before .middle .given .1) at (c .before .before .before .before .before .before .before .part-end2 .ensures) in let e = rw (c .before .end .given .1) at (c .before .before .before .part-end3 .ensures) in search needs
+part-passes-start c = let o = case-order (parts c) in search needs
 
 part-passes-end : tie.Need-part-passes-end
-part-passes-end c = let n = rw (c .before .before .before .before .before .before .before .before .before .named .given .1) at (c .before .before .before .before .before .before .before .before .before .before .before .part-end .ensures) in let m = rw (c .before .before .before .before .before .middle .given .1) at (c .before .before .before .before .before .before .before .part-end2 .ensures) in let e = rw (c .before .end .given .1) at (c .before .before .before .part-end3 .ensures) in search needs
+part-passes-end c = let o = case-order (parts c) in search needs
 
 sub-passes-2 : tie.Need-sub-passes-2
-sub-passes-2 c = let n = rw (c .before .before .before .before .before .before .before .before .before .before .named .given .1) at (c .before .before .before .before .before .before .before .before .before .before .before .before .part-end .ensures) in let m = rw (c .before .before .before .before .before .before .middle .given .1) at (c .before .before .before .before .before .before .before .before .part-end2 .ensures) in let e = rw (c .before .before .end .given .1) at (c .before .before .before .before .part-end3 .ensures) in search needs
+sub-passes-2 c = let o = case-order (parts (c .before)) in search needs
 
 part-passes-start-2 : tie.Need-part-passes-start-2
-part-passes-start-2 c = let n = rw (c .before .before .before .before .before .before .before .before .before .before .named .given .1) at (c .before .before .before .before .before .before .before .before .before .before .before .before .part-end .ensures) in let m = rw (c .before .before .before .before .before .before .middle .given .1) at (c .before .before .before .before .before .before .before .before .part-end2 .ensures) in let e = rw (c .before .before .end .given .1) at (c .before .before .before .before .part-end3 .ensures) in search needs
+part-passes-start-2 c = let o = case-order (parts (c .before)) in search needs
 
 part-passes-end-2 : tie.Need-part-passes-end-2
-part-passes-end-2 c = let n = rw (c .before .before .before .before .before .before .before .before .before .before .named .given .1) at (c .before .before .before .before .before .before .before .before .before .before .before .before .part-end .ensures) in let m = rw (c .before .before .before .before .before .before .middle .given .1) at (c .before .before .before .before .before .before .before .before .part-end2 .ensures) in let e = rw (c .before .before .end .given .1) at (c .before .before .before .before .part-end3 .ensures) in search needs
+part-passes-end-2 c = let o = case-order (parts (c .before)) in search needs
 
 passes-requires : tie.Need-passes-requires
 passes-requires c κs = search needs
 
-returns-4 : tie.Need-returns-4
-returns-4 c = let n = rw (c .before .before .before .before .before .before .before .before .before .before .before .before .named .given .1) at (c .before .before .before .before .before .before .before .before .before .before .before .before .before .before .part-end .ensures) in let m = rw (c .before .before .before .before .before .before .before .before .middle .given .1) at (c .before .before .before .before .before .before .before .before .before .before .part-end2 .ensures) in let e = rw (c .before .before .before .before .end .given .1) at (c .before .before .before .before .before .before .part-end3 .ensures) in search needs
+returns-2 : tie.Need-returns-2
+returns-2 c = let h = parts (c .before .before .before) in (h, rw (← input-is h, ← expected-is h) (c .passes .ensures))
 
 pub run-case-spec : {M : Type 1} → statement M
 run-case-spec =
     tie.close
     (tie.spec
-    part-end-requires
-    enum-known-named
+    case-at-requires
+    enum-known-case
     enum-told
     returns
-    part-end-requires-2
-    enum-known-middle
-    enum-told-2
-    returns-2
-    part-end-requires-3
-    enum-known-end
-    enum-told-3
-    returns-3
     add-a
     add-b
     sub-passes
@@ -93,4 +67,4 @@ run-case-spec =
     part-passes-start-2
     part-passes-end-2
     passes-requires
-    returns-4)
+    returns-2)

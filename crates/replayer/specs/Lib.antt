@@ -1,0 +1,3 @@
+pub mod Replays
+pub mod Laws
+pub mod Unique
