@@ -31,8 +31,8 @@ extern "C" {
 #endif
 
 /* Bytes of stack that dowringaf_data_object and dowringaf_list stay below. */
-#define DOWRINGAF_DECODING_STACK 20480
-#define DOWRINGAF_LISTING_STACK 61440
+#define DOWRINGAF_DECODING_STACK 24576
+#define DOWRINGAF_LISTING_STACK 65536
 
 /* Why a header or a lookup is refused; 0 where it is not. */
 enum dowringaf_refusal {
