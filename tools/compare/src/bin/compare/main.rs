@@ -3,6 +3,7 @@
 
 mod arguments;
 mod breakage;
+mod features;
 mod judge;
 mod run;
 mod self_test;
