@@ -2,10 +2,12 @@
 
 use super::maker::Maker;
 use super::piece::Piece;
-use crate::input::get;
+use crate::input::{get, put};
 
 /// Values up to this length are written out.
 const WRITTEN: u128 = 400;
+/// Sizes and elements whose product is 1,048,576, one less and one more.
+const MANY: &[(u64, u64)] = &[(32, 32_768), (25, 41_943), (17, 61_681)];
 
 impl Maker<'_> {
     pub fn attribute(&mut self) -> Piece {
@@ -39,9 +41,14 @@ impl Maker<'_> {
 
     /// The rest of an attribute. What fails here leaves it without a value.
     fn type_space_value(&mut self, piece: &mut Piece, version: u64) {
+        if self.random.rarely(5) {
+            return self.many_numbers(piece, version);
+        }
         let class = self.random.pick(&[3, 3, 3, 3, 9, 0, 1, 6, 7]);
-        let deep = self.random.rarely(15);
-        let data_type = if deep { self.data_type() } else { self.type_of(class) };
+        let data_type = match self.random.rarely(10) {
+            true => self.deep_type(),
+            false => self.type_of(class),
+        };
         let count = self.random.pick(&[0, 0, 1, 1, 2, 3, 4]);
         let data_space = self.data_space_of(count);
         let elements = self.elements(&data_space, count);
@@ -54,6 +61,18 @@ impl Maker<'_> {
             self.spoil(&mut rest);
         }
         piece.bytes.extend(rest);
+    }
+
+    /// Numbers whose bytes are at the limit of those that are passed, and are not there.
+    fn many_numbers(&mut self, piece: &mut Piece, version: u64) {
+        let (size, elements) = self.random.pick(MANY);
+        let mut data_type = vec![0x30, 0, 0, 0];
+        put(&mut data_type, size, 4);
+        data_type.extend(self.bytes(4));
+        let mut data_space = vec![2, 1, 0, 0];
+        put(&mut data_space, elements, self.length_width);
+        self.padded(&mut piece.bytes, &data_type, version);
+        self.padded(&mut piece.bytes, &data_space, version);
     }
 
     /// The bytes of a field, padded to 8 in version 1.

@@ -3,6 +3,7 @@
 mod attribute;
 mod damage;
 mod header;
+pub mod large;
 mod maker;
 mod messages;
 mod piece;

@@ -12,13 +12,11 @@ const LARGEST_SIZE: u64 = 1_000_000;
 impl Maker<'_> {
     /// A type of any class, now and then at the limit of levels.
     pub fn data_type(&mut self) -> Piece {
-        let mut piece = Piece::default();
         if self.random.rarely(12) {
-            let levels = self.random.pick(DEEP);
-            self.deep_type(&mut piece, levels);
-        } else {
-            self.type_below(&mut piece, 4);
+            return self.deep_type();
         }
+        let mut piece = Piece::default();
+        self.type_below(&mut piece, 4);
         piece
     }
 
@@ -123,16 +121,19 @@ impl Maker<'_> {
         }
     }
 
-    /// Lists and compounds around one flat type, so many levels in all.
-    fn deep_type(&mut self, piece: &mut Piece, levels: u64) {
+    /// Lists or compounds around one flat type, at the limit of levels.
+    pub fn deep_type(&mut self) -> Piece {
+        let mut piece = Piece::default();
+        let levels = self.random.pick(DEEP);
         let class = self.random.pick(&[9, 9, 6]);
         for _ in 1..levels {
-            let (version, size) = self.type_fields(piece, class, 1);
+            let (version, size) = self.type_fields(&mut piece, class, 1);
             if class == 6 {
-                self.member(piece, version, size);
+                self.member(&mut piece, version, size);
             }
         }
-        self.type_below(piece, 0);
+        self.type_below(&mut piece, 0);
+        piece
     }
 
     pub fn data_space(&mut self) -> Piece {

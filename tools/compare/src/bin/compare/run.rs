@@ -8,7 +8,7 @@ use std::time::Instant;
 
 use sides::answer::Header;
 use sides::door::STACK;
-use sides::generate::{BATCH, batch};
+use sides::generate::{BATCH, batch, large};
 use sides::input::Input;
 use sides::real;
 
@@ -114,7 +114,7 @@ pub fn run(arguments: &Arguments) -> io::Result<bool> {
     let start = Instant::now();
     let mut counts = Counts::default();
     let mut judge = Judge::new(arguments.breakage);
-    for input in &real {
+    for input in real.iter().chain(&large::inputs()) {
         let verdict = judge.verdict(input);
         counts.count(input, verdict);
     }
