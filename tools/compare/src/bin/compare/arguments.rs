@@ -5,7 +5,7 @@ use std::path::PathBuf;
 use crate::breakage::{self, Breakage};
 
 pub const USAGE: &str = "\
-usage: compare [--seed N] [--count N] [--threads N] [--break FIELD] [FILE...]
+usage: compare [--seed N] [--count N] [--threads N] [--shown N] [--break FIELD] [FILE...]
        compare --self-test [--seed N] [--count N]
        compare --store FILE [--seed N] [--count N] [--candidates N] [FILE...]
        compare --one < INPUT";
@@ -23,6 +23,8 @@ pub struct Arguments {
     /// Inputs to compare, to search at most, or to store.
     pub count: Option<u64>,
     pub threads: usize,
+    /// Disagreements that are shrunk and printed at most.
+    pub shown: usize,
     /// Inputs among which those to store are chosen.
     pub candidates: u64,
     pub breakage: Option<&'static Breakage>,
@@ -37,6 +39,7 @@ impl Arguments {
             seed: 1,
             count: None,
             threads: 2,
+            shown: 20,
             candidates: 400_000,
             breakage: None,
             files: Vec::new(),
@@ -58,6 +61,7 @@ impl Arguments {
             "--count" => self.count = Some(number(&value()?)?),
             "--candidates" => self.candidates = number(&value()?)?,
             "--threads" => self.threads = number(&value()?)?.clamp(1, 64) as usize,
+            "--shown" => self.shown = number(&value()?)? as usize,
             "--break" => self.breakage = Some(breakage::named(&value()?)?),
             _ if word.starts_with('-') => return Err(format!("{word} is not known")),
             _ => self.files.push(word.into()),

@@ -1,41 +1,52 @@
 //! Wrong ports: each changes one thing in the port's answer, where it is there. The comparison must
 //! find every one of them.
 
-use sides::answer::{Format, Header};
+use sides::answer::{DataType, Format, Header, Row};
 use sides::port::Outcome;
 
 pub struct Breakage {
     pub name: &'static str,
-    /// Changes an accepted header; true where it is to be refused.
-    change: fn(&mut Header) -> bool,
+    change: fn(Outcome) -> Outcome,
+}
+
+const fn breakage(name: &'static str, change: fn(Outcome) -> Outcome) -> Breakage {
+    Breakage { name, change }
 }
 
 pub const ALL: &[Breakage] = &[
-    Breakage { name: "next", change: |h| edit(&mut h.next) },
-    Breakage { name: "entries", change: |h| edit(&mut h.entries) },
-    Breakage { name: "entries-of-blocks", change: entries_of_blocks },
-    Breakage { name: "row-order", change: row_order },
-    Breakage { name: "row-dropped", change: |h| h.rows.pop().is_none() && false },
-    Breakage { name: "flags", change: |h| each_row(h, |row| row.flags &= 1) },
-    Breakage { name: "size", change: |h| each_row(h, |row| row.size &= 0xff) },
-    Breakage { name: "body", change: |h| each_row(h, |row| row.body ^= 1) },
-    Breakage { name: "unknown-type", change: |h| each_row(h, unknown_type) },
-    Breakage { name: "name", change: |h| each_row(h, |row| shorten(&mut row.name, 15)) },
-    Breakage { name: "value", change: |h| each_row(h, |row| shorten(&mut row.part, 20)) },
-    Breakage { name: "value-empty", change: |h| each_row(h, value_empty) },
-    Breakage { name: "data", change: |h| h.data.pop().is_none() && false },
-    Breakage { name: "kind", change: |h| set(&mut h.data_space.kind, Some(0)) },
-    Breakage { name: "fourth-size", change: |h| set(&mut h.data_space.sizes.sizes[3], 0) },
-    Breakage { name: "maximum-all-ones", change: maximum_all_ones },
-    Breakage { name: "class-bits", change: |h| masked(&mut h.data_type.class_bit_field) },
-    Breakage { name: "list-size", change: |h| set(&mut h.data_type.list_size, None) },
-    Breakage { name: "list-format", change: list_format },
-    Breakage { name: "bias", change: bias },
-    Breakage { name: "link-order", change: |h| set(&mut h.link_info.address_btree_order, None) },
-    Breakage { name: "link-index", change: |h| h.link_info.maximum_creation_index.as_mut().is_some_and(masked) },
-    Breakage { name: "group-length", change: |h| set(&mut h.group_info.length_of_entries, None) },
-    Breakage { name: "attribute-index", change: |h| masked(&mut h.attribute_info.maximum_creation_index) },
-    Breakage { name: "refusal", change: |h| h.rows.iter().any(|row| row.kind == 11) },
+    breakage("next", |o| header(o, |h| h.next += 1)),
+    breakage("entries", |o| header(o, |h| h.entries += 1)),
+    breakage("entries-of-many-blocks", |o| header(o, few_blocks)),
+    breakage("row-order", |o| header(o, row_order)),
+    breakage("row-dropped", |o| header(o, |h| drop(h.rows.pop()))),
+    breakage("flags", |o| rows(o, |row| row.flags &= 1)),
+    breakage("size", |o| rows(o, |row| row.size &= 0xff)),
+    breakage("body", |o| rows(o, |row| row.body ^= 1)),
+    breakage("unknown-type", |o| rows(o, unknown_type)),
+    breakage("name", |o| rows(o, |row| shorten(&mut row.name, 1))),
+    breakage("longest-name", |o| rows(o, |row| shorten(&mut row.name, 4096))),
+    breakage("value", |o| rows(o, |row| shorten(&mut row.part, 60))),
+    breakage("value-empty", |o| rows(o, value_empty)),
+    breakage("data", |o| header(o, |h| h.data.truncate(7))),
+    breakage("data-of-first-layout", |o| header(o, first_data)),
+    breakage("kind", |o| header(o, |h| h.data_space.kind = Some(0))),
+    breakage("fourth-size", |o| header(o, |h| h.data_space.sizes.sizes[3] = 0)),
+    breakage("size-at-its-limit", |o| header(o, size_limit)),
+    breakage("maximum-of-all-ones", |o| header(o, all_ones)),
+    breakage("class-bits", |o| header(o, |h| h.data_type.class_bit_field &= 0xffff)),
+    breakage("list-size", |o| header(o, |h| h.data_type.list_size = None)),
+    breakage("list-format", |o| header(o, list_format)),
+    breakage("bias", |o| header(o, bias)),
+    breakage("link-order", |o| header(o, |h| h.link_info.address_btree_order = None)),
+    breakage("link-index", |o| header(o, link_index)),
+    breakage("group-length", |o| header(o, |h| h.group_info.length_of_entries = None)),
+    breakage("attribute-index", |o| header(o, |h| h.attribute_info.maximum_creation_index &= 0xff)),
+    breakage("blocks-of-24-levels", |o| refuse(o, |h| h.entries >= h.rows.len() as u64 + 25)),
+    breakage("type-of-size-63", |o| refuse(o, |h| h.data_type.size == 63)),
+    breakage("refusal-of-ranges", |o| accept(o, 19)),
+    breakage("refusal-of-levels", |o| accept(o, 21)),
+    breakage("always-outside", |o| refuse_with(o, 14)),
+    breakage("entries-outside", |o| refuse_with(o, 23)),
 ];
 
 pub fn named(name: &str) -> Result<&'static Breakage, String> {
@@ -46,89 +57,137 @@ pub fn named(name: &str) -> Result<&'static Breakage, String> {
 
 impl Breakage {
     pub fn apply(&self, outcome: Outcome) -> Outcome {
-        match outcome {
-            Outcome::Read(mut header) => match (self.change)(&mut header) {
-                true => Outcome::Refused(3),
-                false => Outcome::Read(header),
-            },
-            refused => refused,
+        (self.change)(outcome)
+    }
+}
+
+/// Changes an accepted header.
+fn header(outcome: Outcome, change: fn(&mut Header)) -> Outcome {
+    match outcome {
+        Outcome::Read(mut header) => {
+            change(&mut header);
+            Outcome::Read(header)
         }
+        refused => refused,
     }
 }
 
-// Each answers false: the header stays accepted.
-
-fn edit(number: &mut u64) -> bool {
-    *number ^= 1;
-    false
-}
-
-fn set<T>(field: &mut T, value: T) -> bool {
-    *field = value;
-    false
-}
-
-/// Keeps one byte.
-fn masked(number: &mut u64) -> bool {
-    *number &= 0xff;
-    false
-}
-
-fn each_row(header: &mut Header, change: fn(&mut sides::answer::Row)) -> bool {
-    header.rows.iter_mut().for_each(change);
-    false
-}
-
-fn entries_of_blocks(header: &mut Header) -> bool {
-    header.entries = header.entries.min(header.rows.len() as u64 + 2);
-    false
-}
-
-fn row_order(header: &mut Header) -> bool {
-    if header.entries > header.rows.len() as u64 {
-        header.rows.sort_by_key(|row| row.body);
+/// Changes every row of an accepted header.
+fn rows(outcome: Outcome, change: fn(&mut Row)) -> Outcome {
+    match outcome {
+        Outcome::Read(mut header) => {
+            header.rows.iter_mut().for_each(change);
+            Outcome::Read(header)
+        }
+        refused => refused,
     }
-    false
 }
 
-fn unknown_type(row: &mut sides::answer::Row) {
+/// Refuses some of the accepted headers.
+fn refuse(outcome: Outcome, which: fn(&Header) -> bool) -> Outcome {
+    match outcome {
+        Outcome::Read(header) if which(&header) => Outcome::Refused(3),
+        other => other,
+    }
+}
+
+/// Refuses accepted headers with a number that is no part of the comparison.
+fn refuse_with(outcome: Outcome, number: u64) -> Outcome {
+    match outcome {
+        Outcome::Read(_) => Outcome::Refused(number),
+        refused => refused,
+    }
+}
+
+/// Accepts, as an empty header, what is refused with a number.
+fn accept(outcome: Outcome, number: u64) -> Outcome {
+    match outcome {
+        Outcome::Refused(refused) if refused == number => Outcome::Read(Box::new(empty())),
+        other => other,
+    }
+}
+
+fn empty() -> Header {
+    Header {
+        next: 0,
+        entries: 0,
+        rows: Vec::new(),
+        data_space: Default::default(),
+        data_type: DataType {
+            class_and_version: 0,
+            class_bit_field: 0,
+            size: 0,
+            list_size: None,
+            format: Format::None,
+        },
+        link_info: Default::default(),
+        group_info: Default::default(),
+        attribute_info: Default::default(),
+        data: Vec::new(),
+    }
+}
+
+fn few_blocks(header: &mut Header) {
+    header.entries = header.entries.min(header.rows.len() as u64 + 8);
+}
+
+/// Rows by their place in the file and not by the reading's order.
+fn row_order(header: &mut Header) {
+    header.rows.sort_by_key(|row| row.body);
+}
+
+fn unknown_type(row: &mut Row) {
     if row.kind > 21 {
         row.kind = 0;
     }
 }
 
-/// Drops the last byte of a longer text.
-fn shorten(text: &mut Option<Vec<u8>>, longer: usize) {
-    if let Some(text) = text.as_mut().filter(|text| text.len() > longer) {
+/// Drops the last byte of a text of some length or more.
+fn shorten(text: &mut Option<Vec<u8>>, length: usize) {
+    if let Some(text) = text.as_mut().filter(|text| text.len() >= length) {
         text.pop();
     }
 }
 
-fn value_empty(row: &mut sides::answer::Row) {
+fn value_empty(row: &mut Row) {
     if row.kind == 12 && row.part.as_ref().is_some_and(Vec::is_empty) {
         row.part = None;
     }
 }
 
-fn maximum_all_ones(header: &mut Header) -> bool {
-    for maximum in &mut header.data_space.maxima.sizes {
-        if *maximum == u64::MAX {
-            *maximum = 0;
-        }
-    }
-    false
+fn first_data(header: &mut Header) {
+    let layout = header.rows.iter().find(|row| row.kind == 8);
+    header.data = layout.and_then(|row| row.part.clone()).unwrap_or_default();
 }
 
-fn list_format(header: &mut Header) -> bool {
+fn size_limit(header: &mut Header) {
+    for size in &mut header.data_space.sizes.sizes {
+        *size = (*size).min(999_999);
+    }
+}
+
+fn all_ones(header: &mut Header) {
+    for maximum in &mut header.data_space.maxima.sizes {
+        if *maximum == u64::MAX >> 8 {
+            *maximum = u64::MAX;
+        }
+    }
+}
+
+fn list_format(header: &mut Header) {
     if header.data_type.list_size.is_some() {
         header.data_type.format = Format::None;
     }
-    false
 }
 
-fn bias(header: &mut Header) -> bool {
+fn bias(header: &mut Header) {
     if let Format::Float(fields) = &mut header.data_type.format {
         fields[6] = fields[6].min(127);
     }
-    false
+}
+
+fn link_index(header: &mut Header) {
+    if let Some(index) = &mut header.link_info.maximum_creation_index {
+        *index &= 0xffff_ffff;
+    }
 }

@@ -17,8 +17,8 @@ use crate::judge::{Exclusion, Judge, Verdict};
 use crate::shrink::shrink;
 
 const COUNT: u64 = 2_000_000;
-/// Disagreements that are shown.
-const SHOWN: usize = 20;
+/// Disagreements that are kept.
+const KEPT: usize = 100;
 /// The message types with fields, by name; the rest are skipped by their size.
 const TYPES: &[(u64, &str)] = &[
     (1, "dataspace"),
@@ -69,7 +69,7 @@ impl Counts {
     }
 
     fn show(&mut self, input: &Input) {
-        if self.shown.len() < SHOWN {
+        if self.shown.len() < KEPT {
             self.shown.push(input.clone());
         }
     }
@@ -98,7 +98,6 @@ impl Counts {
         add_all(&mut self.outside, other.outside);
         add_all(&mut self.types, other.types);
         self.shown.extend(other.shown);
-        self.shown.truncate(SHOWN);
     }
 }
 
@@ -121,7 +120,7 @@ pub fn run(arguments: &Arguments) -> io::Result<bool> {
     counts.add(batches(arguments, &real));
     let seconds = start.elapsed().as_secs_f64();
     print_counts(arguments, &counts, real.len(), seconds);
-    for input in &counts.shown {
+    for input in counts.shown.iter().take(arguments.shown) {
         print_smallest(&mut judge, input);
     }
     Ok(counts.differing == 0 && counts.panicked == 0)
