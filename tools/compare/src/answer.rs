@@ -98,7 +98,11 @@ impl Header {
     /// The report. Texts are converted to UTF-8, lossily, as the Rust has them.
     pub fn report(&self) -> Vec<u8> {
         let mut out = Vec::with_capacity(512);
-        line(&mut out, "read", &numbers(&[self.next, self.entries, self.rows.len() as u64]));
+        line(
+            &mut out,
+            "read",
+            &numbers(&[self.next, self.entries, self.rows.len() as u64]),
+        );
         for row in &self.rows {
             row.write(&mut out);
         }
@@ -115,7 +119,8 @@ impl Header {
 
     /// Whether every name and text is UTF-8 as it stands in the file.
     pub fn is_utf8(&self) -> bool {
-        let valid = |text: &Option<Vec<u8>>| text.as_deref().is_none_or(|t| str::from_utf8(t).is_ok());
+        let valid =
+            |text: &Option<Vec<u8>>| text.as_deref().is_none_or(|t| str::from_utf8(t).is_ok());
         let mut rows = self.rows.iter();
         rows.all(|row| valid(&row.name) && (row.kind != ATTRIBUTE || valid(&row.part)))
     }

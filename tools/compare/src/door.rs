@@ -73,7 +73,9 @@ pub fn rust_answer(input: &Input) -> Answer {
 /// attributes it holds, or nothing where it refuses.
 pub fn rust_data_object(input: &Input) -> Option<(usize, usize)> {
     let mut stream = stream_at(input, input.position as usize).ok()?;
-    let object = data_object::data_object("header").parse_next(&mut stream).ok()?;
+    let object = data_object::data_object("header")
+        .parse_next(&mut stream)
+        .ok()?;
     Some((stream.current_token_start(), object.parsed_attributes.len()))
 }
 
@@ -217,7 +219,11 @@ fn header(input: &Input) -> ModalResult<Reading> {
     let next = stream.current_token_start();
     silence();
     let messages = messages(input, object.flags, next);
-    Ok(Reading { object, messages, next })
+    Ok(Reading {
+        object,
+        messages,
+        next,
+    })
 }
 
 /// The messages of a header that `data_object` accepted up to `next`.
@@ -229,7 +235,11 @@ fn messages(input: &Input, flags: DataObjectFlags, next: usize) -> Vec<HeaderMes
     let end = start + get(&input.file[field..start]) as usize;
     let mut stream = stream_at(input, start).expect("accepted before");
     let messages = collect_all_messages(&mut stream, end, flags).expect("accepted before");
-    assert_eq!(stream.current_token_start() + 4, next, "both readings end alike");
+    assert_eq!(
+        stream.current_token_start() + 4,
+        next,
+        "both readings end alike"
+    );
     messages
 }
 
@@ -258,7 +268,10 @@ impl Reading {
 fn row((message, entry): (&HeaderMessage, &Entry)) -> Row {
     let (name, part) = match &message.kind {
         HeaderMessageKind::Attribute(Some(attribute)) => {
-            let value = attribute.value.as_ref().map(|value| value.clone().into_bytes());
+            let value = attribute
+                .value
+                .as_ref()
+                .map(|value| value.clone().into_bytes());
             (Some(attribute.name.clone().into_bytes()), value)
         }
         HeaderMessageKind::DataLayout(data) => (None, Some(data.clone())),

@@ -127,12 +127,17 @@ impl Port {
         }
     }
 
-    /// The port's answer, first with few rows, and where those do not do with all.
+    /// The port's answer, first with few rows, and where those do not do with all. The table comes
+    /// as the call before left it, and its words after the last row must be zero.
     pub fn answer(&mut self, input: &Input) -> Outcome {
-        let mut object = call(input, &mut self.table[..FEW_ROWS * ROW_WORDS]);
+        let mut words = FEW_ROWS * ROW_WORDS;
+        let mut object = call(input, &mut self.table[..words]);
         if object.refused == TABLE_TOO_SMALL {
+            words = self.table.len();
             object = call(input, &mut self.table);
         }
+        let unused = &self.table[object.rows as usize * ROW_WORDS..words];
+        assert!(unused.iter().all(|word| *word == 0), "unused rows are zero");
         if object.refused != 0 {
             return Outcome::Refused(object.refused);
         }

@@ -37,7 +37,10 @@ fn headers_of(file: &[u8]) -> Vec<Input> {
     let Some((offset_width, length_width, end_of_file)) = super_block(file) else {
         return Vec::new();
     };
-    let marks = file.windows(4).enumerate().filter(|(_, bytes)| bytes == b"OHDR");
+    let marks = file
+        .windows(4)
+        .enumerate()
+        .filter(|(_, bytes)| bytes == b"OHDR");
     marks
         .map(|(position, _)| Input {
             offset_width,

@@ -36,7 +36,8 @@ impl Maker<'_> {
         if self.random.rarely(4) {
             return self.random.pick(&[255, 256, 4095, 4096]);
         }
-        self.random.pick(&[0, 1, 6, 7, 8, 9, 15, 16, 17, some, some, some])
+        self.random
+            .pick(&[0, 1, 6, 7, 8, 9, 15, 16, 17, some, some, some])
     }
 
     /// The rest of an attribute. What fails here leaves it without a value.
@@ -97,7 +98,11 @@ impl Maker<'_> {
     fn value(&mut self, data_type: &[u8], elements: u128) -> Vec<u8> {
         let size = u128::from(get(&data_type[4..8]));
         let list = data_type[0] & 15 == 9;
-        let total = if list { size } else { size.saturating_mul(elements) };
+        let total = if list {
+            size
+        } else {
+            size.saturating_mul(elements)
+        };
         if total > WRITTEN {
             return self.text(8);
         }

@@ -21,7 +21,9 @@ impl Maker<'_> {
         let mut file = Piece::default();
         let before = self.random.pick(&[0, 0, 0, 1, 5, 8, 40]);
         file.bytes = self.bytes(before);
-        let mut blocks: Vec<Piece> = (1..plan.len()).map(|n| self.block(&plan, n, flags)).collect();
+        let mut blocks: Vec<Piece> = (1..plan.len())
+            .map(|n| self.block(&plan, n, flags))
+            .collect();
         let held = if inside { blocks.pop() } else { None };
         let header = self.header(&plan, flags, held.as_ref());
         file.append(&header);
@@ -50,10 +52,18 @@ impl Maker<'_> {
             file.truncate(kept);
         }
         let end_of_file = self.end_of_file(file.len() as u64);
-        let position = if self.fault() { self.strange_position(position) } else { position };
+        let position = if self.fault() {
+            self.strange_position(position)
+        } else {
+            position
+        };
         let bad_width = self.fault() && self.random.rarely(100);
         Input {
-            offset_width: if bad_width { self.random.pick(&[0, 1, 9, 255]) } else { self.offset_width },
+            offset_width: if bad_width {
+                self.random.pick(&[0, 1, 9, 255])
+            } else {
+                self.offset_width
+            },
             length_width: self.length_width,
             end_of_file,
             position,
@@ -64,17 +74,22 @@ impl Maker<'_> {
     fn end_of_file(&mut self, length: u64) -> u64 {
         if self.fault() {
             let some = self.random.below(length + 1);
-            return self.random.pick(&[0, 1, length.saturating_sub(1), some, some]);
+            return self
+                .random
+                .pick(&[0, 1, length.saturating_sub(1), some, some]);
         }
         if self.random.rarely(150) {
-            return self.random.pick(&[length + 1, length + 100, 1 << 32, u64::MAX - 1, u64::MAX]);
+            return self
+                .random
+                .pick(&[length + 1, length + 100, 1 << 32, u64::MAX - 1, u64::MAX]);
         }
         length
     }
 
     fn strange_position(&mut self, position: u64) -> u64 {
         let moved = position.wrapping_add(self.random.pick(&[1, 4, u64::MAX]));
-        self.random.pick(&[moved, moved, 1 << 31, 1 << 32, u64::MAX, u64::MAX - 3])
+        self.random
+            .pick(&[moved, moved, 1 << 31, 1 << 32, u64::MAX, u64::MAX - 3])
     }
 
     fn header_flags(&mut self) -> u64 {
@@ -112,9 +127,15 @@ impl Maker<'_> {
         let chunk = self.chunk(plan, 0, flags, held);
         let width = 1_u8 << (flags & 3);
         let room = Maker::all_ones(width);
-        let (width_bits, room) = if chunk.len() as u64 > room { (2, u64::MAX) } else { (flags & 3, room) };
+        let (width_bits, room) = if chunk.len() as u64 > room {
+            (2, u64::MAX)
+        } else {
+            (flags & 3, room)
+        };
         let mut header = Piece::default();
-        header.bytes.extend(if self.fault() { b"OHDS" } else { b"OHDR" });
+        header
+            .bytes
+            .extend(if self.fault() { b"OHDS" } else { b"OHDR" });
         let version = self.choose(&[2], &[0, 1, 3, 255]);
         header.put(version, 1);
         header.put(flags & !3 | width_bits, 1);
@@ -143,7 +164,9 @@ impl Maker<'_> {
 
     fn block(&mut self, plan: &Plan, number: usize, flags: u64) -> Piece {
         let mut block = Piece::default();
-        block.bytes.extend(if self.fault() { b"OCHX" } else { b"OCHK" });
+        block
+            .bytes
+            .extend(if self.fault() { b"OCHX" } else { b"OCHK" });
         let chunk = self.chunk(plan, number, flags, None);
         block.append(&chunk);
         block.bytes.extend(self.bytes(4));
@@ -155,9 +178,16 @@ impl Maker<'_> {
     fn chunk(&mut self, plan: &Plan, number: usize, flags: u64, held: Option<&Piece>) -> Piece {
         let orders = flags & ORDERS != 0;
         let crowded = plan.len() > 8;
-        let most = if crowded { 1 } else if number == 0 { 6 } else { 3 };
+        let most = if crowded {
+            1
+        } else if number == 0 {
+            6
+        } else {
+            3
+        };
         let mut opened = plan[number].clone();
-        let mut entries: Vec<Option<usize>> = (0..self.random.below(most + 1)).map(|_| None).collect();
+        let mut entries: Vec<Option<usize>> =
+            (0..self.random.below(most + 1)).map(|_| None).collect();
         for block in opened.drain(..) {
             let at = self.random.below(entries.len() as u64 + 1) as usize;
             entries.insert(at, Some(block));
@@ -199,7 +229,11 @@ impl Maker<'_> {
             body.put(length, self.length_width);
         } else {
             let longer = self.random.rarely(50);
-            let shift = if longer { self.random.pick(&[1, 4, 8, u64::MAX, u64::MAX - 4]) } else { 0 };
+            let shift = if longer {
+                self.random.pick(&[1, 4, 8, u64::MAX, u64::MAX - 4])
+            } else {
+                0
+            };
             body.link(Place::BlockLength(block), shift, self.length_width);
         }
         self.entry(16, &body, orders)
@@ -233,6 +267,12 @@ impl Maker<'_> {
 
 /// Blocks in a row, each opened by the one before, so many times.
 fn chain(count: usize, times: usize) -> Plan {
-    let open = |chunk: usize| if chunk < count { vec![chunk + 1; times] } else { vec![] };
+    let open = |chunk: usize| {
+        if chunk < count {
+            vec![chunk + 1; times]
+        } else {
+            vec![]
+        }
+    };
     (0..=count).map(open).collect()
 }

@@ -54,7 +54,7 @@ impl<'r> Maker<'r> {
 
     /// A number of any size, the boundaries of bytes more often.
     pub fn any_number(&mut self) -> u64 {
-        let number = self.random.next() >> self.random.below(64);
+        let number = self.random.number() >> self.random.below(64);
         self.random.pick(&[0, 1, u64::MAX, number, number, number])
     }
 
@@ -84,7 +84,15 @@ impl<'r> Maker<'r> {
     /// Puts a few bytes of other scripts, cut sequences and zeros into a text.
     fn strange(&mut self, text: &mut [u8]) {
         const PIECES: &[&[u8]] = &[
-            b"\xc3\xa9", b"\xe2\x82\xac", b"\xf0\x9f\x8e\xa7", b"\xff", b"\xe2\x82", b"\xc3", b"\0", b"\n", b",",
+            b"\xc3\xa9",
+            b"\xe2\x82\xac",
+            b"\xf0\x9f\x8e\xa7",
+            b"\xff",
+            b"\xe2\x82",
+            b"\xc3",
+            b"\0",
+            b"\n",
+            b",",
         ];
         let piece = self.random.pick(PIECES);
         let at = self.random.below(text.len() as u64) as usize;

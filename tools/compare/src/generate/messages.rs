@@ -149,8 +149,15 @@ impl Maker<'_> {
             let from = self.random.below(8);
             piece.link(Place::Data, from, width);
         }
-        let sizes = if nowhere { [0, some, largest] } else { [0, 1, some] };
-        let size = self.choose(&sizes, &[CONTIGUOUS_LIMIT, CONTIGUOUS_LIMIT - 1, u64::MAX, 1 << 16]);
+        let sizes = if nowhere {
+            [0, some, largest]
+        } else {
+            [0, 1, some]
+        };
+        let size = self.choose(
+            &sizes,
+            &[CONTIGUOUS_LIMIT, CONTIGUOUS_LIMIT - 1, u64::MAX, 1 << 16],
+        );
         piece.put(size, self.length_width);
     }
 
@@ -187,18 +194,28 @@ impl Maker<'_> {
 
     fn filter(&mut self, piece: &mut Piece, version: u64) {
         self.numbers(piece, 1, 2);
-        let name = self.random.pick(&[0, 1, 5, 7, 8, 9, 16, 65_529, 65_532, 65_535]);
+        let name = self
+            .random
+            .pick(&[0, 1, 5, 7, 8, 9, 16, 65_529, 65_532, 65_535]);
         if version == 1 {
             let told = self.choose(&[name], &[65_528, 32_768]);
             piece.put(told, 2);
         }
         self.numbers(piece, 1, 2);
-        let values = if self.random.rarely(2) { 4096 } else { self.random.below(5) };
+        let values = if self.random.rarely(2) {
+            4096
+        } else {
+            self.random.below(5)
+        };
         let told = self.choose(&[values], &[4096, 4097, 4098, 65_535]);
         piece.put(told, 2);
         if version == 1 {
             // The length of the name wraps in 16 bits.
-            let skipped = self.bytes(if name > 65_528 { 0 } else { name.next_multiple_of(8) as usize });
+            let skipped = self.bytes(if name > 65_528 {
+                0
+            } else {
+                name.next_multiple_of(8) as usize
+            });
             piece.bytes.extend(skipped);
         }
         let padding = if version == 1 { values % 2 } else { 0 };

@@ -91,7 +91,9 @@ impl Maker<'_> {
     /// What stands before a member's type.
     fn member(&mut self, piece: &mut Piece, version: u64, size: u64) {
         let length = self.member_name_length(version);
-        let name: Vec<u8> = (0..length).map(|_| b'a' + self.random.below(26) as u8).collect();
+        let name: Vec<u8> = (0..length)
+            .map(|_| b'a' + self.random.below(26) as u8)
+            .collect();
         piece.bytes.extend(name);
         piece.put(0, 1);
         if version == 3 {
@@ -101,7 +103,11 @@ impl Maker<'_> {
         }
         // From 256 on the name's tail stands in for closing byte and skip.
         let closed = (length + 1).min(263);
-        let skip = if length < 256 { (6_usize.wrapping_sub(length)) % 8 } else { 263 - closed };
+        let skip = if length < 256 {
+            (6_usize.wrapping_sub(length)) % 8
+        } else {
+            263 - closed
+        };
         let skipped = self.bytes(skip + 4);
         piece.bytes.extend(skipped);
         let dimension = self.choose(&[0], &[1, 0x100, 0x8000_0000]);
@@ -145,7 +151,11 @@ impl Maker<'_> {
         let mut piece = Piece::default();
         let version = self.choose(&[1, 2, 2], &[0, 3, 255]);
         let noise = self.any_number() & 0xfc;
-        let bits = if version == 1 { &[0, 1][..] } else { &[0, 1, 2, 3] };
+        let bits = if version == 1 {
+            &[0, 1][..]
+        } else {
+            &[0, 1, 2, 3]
+        };
         let flags = noise | self.choose(bits, &[2, 3]);
         piece.put(version, 1);
         piece.put(count, 1);
@@ -170,11 +180,14 @@ impl Maker<'_> {
         let limit = LARGEST_SIZE.min(ones);
         if ones > LARGEST_SIZE && self.fault() {
             let high = 1 << (8 * u32::from(self.length_width) - 8);
-            return self.random.pick(&[LARGEST_SIZE + 1, ones, ones - 1, ones / 2, high]);
+            return self
+                .random
+                .pick(&[LARGEST_SIZE + 1, ones, ones - 1, ones / 2, high]);
         }
         let some = self.random.below(5);
         let large = self.random.below(limit + 1);
-        self.random.pick(&[0, 1, 2, some, some, some, large, limit - 1, limit])
+        self.random
+            .pick(&[0, 1, 2, some, some, some, large, limit - 1, limit])
     }
 
     fn maximum(&mut self) -> u64 {

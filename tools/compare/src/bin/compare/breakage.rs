@@ -24,24 +24,38 @@ pub const ALL: &[Breakage] = &[
     breakage("body", |o| rows(o, |row| row.body ^= 1)),
     breakage("unknown-type", |o| rows(o, unknown_type)),
     breakage("name", |o| rows(o, |row| shorten(&mut row.name, 1))),
-    breakage("longest-name", |o| rows(o, |row| shorten(&mut row.name, 4096))),
+    breakage("longest-name", |o| {
+        rows(o, |row| shorten(&mut row.name, 4096))
+    }),
     breakage("value", |o| rows(o, |row| shorten(&mut row.part, 60))),
     breakage("value-empty", |o| rows(o, value_empty)),
     breakage("data", |o| header(o, |h| h.data.truncate(7))),
     breakage("data-of-first-layout", |o| header(o, first_data)),
     breakage("kind", |o| header(o, |h| h.data_space.kind = Some(0))),
-    breakage("fourth-size", |o| header(o, |h| h.data_space.sizes.sizes[3] = 0)),
+    breakage("fourth-size", |o| {
+        header(o, |h| h.data_space.sizes.sizes[3] = 0)
+    }),
     breakage("size-at-its-limit", |o| header(o, size_limit)),
     breakage("maximum-of-all-ones", |o| header(o, all_ones)),
-    breakage("class-bits", |o| header(o, |h| h.data_type.class_bit_field &= 0xffff)),
+    breakage("class-bits", |o| {
+        header(o, |h| h.data_type.class_bit_field &= 0xffff)
+    }),
     breakage("list-size", |o| header(o, |h| h.data_type.list_size = None)),
     breakage("list-format", |o| header(o, list_format)),
     breakage("bias", |o| header(o, bias)),
-    breakage("link-order", |o| header(o, |h| h.link_info.address_btree_order = None)),
+    breakage("link-order", |o| {
+        header(o, |h| h.link_info.address_btree_order = None)
+    }),
     breakage("link-index", |o| header(o, link_index)),
-    breakage("group-length", |o| header(o, |h| h.group_info.length_of_entries = None)),
-    breakage("attribute-index", |o| header(o, |h| h.attribute_info.maximum_creation_index &= 0xff)),
-    breakage("blocks-of-24-levels", |o| refuse(o, |h| h.entries >= h.rows.len() as u64 + 25)),
+    breakage("group-length", |o| {
+        header(o, |h| h.group_info.length_of_entries = None)
+    }),
+    breakage("attribute-index", |o| {
+        header(o, |h| h.attribute_info.maximum_creation_index &= 0xff)
+    }),
+    breakage("blocks-of-24-levels", |o| {
+        refuse(o, |h| h.entries >= h.rows.len() as u64 + 25)
+    }),
     breakage("type-of-size-63", |o| refuse(o, |h| h.data_type.size == 63)),
     breakage("refusal-of-ranges", |o| accept(o, 19)),
     breakage("refusal-of-levels", |o| accept(o, 21)),

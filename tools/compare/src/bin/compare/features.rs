@@ -105,12 +105,22 @@ fn of_row(input: &Input, row: &Row) -> Vec<Feature> {
             features.push(feature(group, widths(input)));
         }
         2 | 21 => {
-            features.push(feature(group, format!("flags {} {}", second & 3, widths(input))));
+            features.push(feature(
+                group,
+                format!("flags {} {}", second & 3, widths(input)),
+            ));
         }
         3 => features.extend(of_type(group, input, body)),
         5 => {
-            let defined = if first == 3 { second & 32 } else { byte(input, body + 3) };
-            features.push(feature(group, format!("version {first} {second} defined {defined}")));
+            let defined = if first == 3 {
+                second & 32
+            } else {
+                byte(input, body + 3)
+            };
+            features.push(feature(
+                group,
+                format!("version {first} {second} defined {defined}"),
+            ));
         }
         8 => {
             let length = row.part.as_ref().map_or(0, Vec::len);
@@ -135,8 +145,14 @@ fn of_type(group: &str, input: &Input, at: usize) -> Vec<Feature> {
         _ => 0,
     };
     vec![
-        feature(group, format!("type {class_and_version} inside {}", few(inside))),
-        feature(group, format!("type {} size {}", class_and_version & 15, size.min(64))),
+        feature(
+            group,
+            format!("type {class_and_version} inside {}", few(inside)),
+        ),
+        feature(
+            group,
+            format!("type {} size {}", class_and_version & 15, size.min(64)),
+        ),
     ]
 }
 
@@ -144,7 +160,11 @@ fn of_attribute(group: &str, input: &Input, row: &Row) -> Vec<Feature> {
     let body = row.body as usize;
     let version = byte(input, body);
     let name_size = input.file.get(body + 2..body + 4).map_or(0, get) as usize;
-    let padding = if version == 1 && name_size < 8 { (8 - name_size) % 8 } else { 0 };
+    let padding = if version == 1 && name_size < 8 {
+        (8 - name_size) % 8
+    } else {
+        0
+    };
     let at = body + if version == 3 { 9 } else { 8 } + name_size + padding;
     let value = row.part.as_ref().map(Vec::len);
     let presence = match value {
@@ -155,10 +175,22 @@ fn of_attribute(group: &str, input: &Input, row: &Row) -> Vec<Feature> {
     let class = byte(input, at) & 15;
     let mut features = vec![
         feature(group, format!("version {version} name {name_size}")),
-        feature(group, format!("version {version} type {class} value {presence}")),
-        feature(group, format!("version {version} value {presence} {}", widths(input))),
-        feature(group, format!("value length {}", value.unwrap_or(0).min(64))),
-        feature(group, format!("name length {}", row.name.as_ref().map_or(0, Vec::len))),
+        feature(
+            group,
+            format!("version {version} type {class} value {presence}"),
+        ),
+        feature(
+            group,
+            format!("version {version} value {presence} {}", widths(input)),
+        ),
+        feature(
+            group,
+            format!("value length {}", value.unwrap_or(0).min(64)),
+        ),
+        feature(
+            group,
+            format!("name length {}", row.name.as_ref().map_or(0, Vec::len)),
+        ),
     ];
     features.extend(of_type(group, input, at));
     features
@@ -178,8 +210,17 @@ fn of_sizes(header: &Header, blocks: u64, flags: u8) -> Vec<Feature> {
 fn of_records(header: &Header) -> Vec<Feature> {
     let space = &header.data_space;
     let mut features = vec![
-        feature("records", format!("format {:?}", std::mem::discriminant(&header.data_type.format))),
-        feature("records", format!("list size {:?}", header.data_type.list_size)),
+        feature(
+            "records",
+            format!(
+                "format {:?}",
+                std::mem::discriminant(&header.data_type.format)
+            ),
+        ),
+        feature(
+            "records",
+            format!("list size {:?}", header.data_type.list_size),
+        ),
         feature("records", format!("data {}", header.data.len())),
     ];
     for size in space.sizes.sizes.iter().chain(&space.maxima.sizes) {

@@ -120,6 +120,7 @@ pub fn run(arguments: &Arguments) -> io::Result<bool> {
     counts.add(batches(arguments, &real));
     let seconds = start.elapsed().as_secs_f64();
     print_counts(arguments, &counts, real.len(), seconds);
+    counts.shown.sort_by_key(|input| input.file.len());
     for input in counts.shown.iter().take(arguments.shown) {
         print_smallest(&mut judge, input);
     }
@@ -165,7 +166,10 @@ fn print_counts(arguments: &Arguments, counts: &Counts, real: usize, seconds: f6
         println!("broken on purpose: {}", breakage.name);
     }
     let speed = counts.inputs as f64 / seconds;
-    println!("inputs {}, {real} of them headers of real files as they are", counts.inputs);
+    println!(
+        "inputs {}, {real} of them headers of real files as they are",
+        counts.inputs
+    );
     println!("{seconds:.1} seconds, {speed:.0} inputs a second");
     println!("accepted by both {}", counts.accepted);
     let refused: u64 = counts.refused.values().sum();
@@ -193,8 +197,14 @@ fn print_contents(counts: &Counts) {
         println!("  {kind} {name}: {count}");
     }
     println!("  skipped by size: {others}");
-    println!("attributes with a value {}, {} of them empty", counts.values, counts.empty_values);
-    println!("accepted headers with blocks {}", counts.headers_with_blocks);
+    println!(
+        "attributes with a value {}, {} of them empty",
+        counts.values, counts.empty_values
+    );
+    println!(
+        "accepted headers with blocks {}",
+        counts.headers_with_blocks
+    );
 }
 
 impl Exclusion {
@@ -224,7 +234,14 @@ fn print_answers(verdict: &Verdict) {
         Verdict::Differs(port, rust) => print!("port:\n{port}Rust:\n{rust}"),
         Verdict::Panicked(message, port) => println!("port:\n{port}Rust:\npanics: {message}"),
         Verdict::Accepted(header) => {
-            print!("both:\n{}", header.report().escape_ascii().to_string().replace("\\n", "\n"));
+            print!(
+                "both:\n{}",
+                header
+                    .report()
+                    .escape_ascii()
+                    .to_string()
+                    .replace("\\n", "\n")
+            );
         }
         Verdict::Refused(number) => println!("both:\nrefused, by the port with {number}"),
         Verdict::Outside(why) => println!("outside the comparison: {}", why.text()),
@@ -240,5 +257,8 @@ pub fn one(arguments: &Arguments) -> io::Result<bool> {
     };
     let verdict = Judge::new(arguments.breakage).verdict(&input);
     print_answers(&verdict);
-    Ok(!matches!(verdict, Verdict::Differs(..) | Verdict::Panicked(..)))
+    Ok(!matches!(
+        verdict,
+        Verdict::Differs(..) | Verdict::Panicked(..)
+    ))
 }

@@ -214,7 +214,10 @@ fn counts(input: &Input) -> Vec<Count> {
     for entry in rust_answer(input).entries {
         let size = entry.body - prefix + 1;
         let length = get(&input.file[size..size + 2]) as usize;
-        counts.push(Count::Entry(size..size + 2, entry.body..entry.body + length));
+        counts.push(Count::Entry(
+            size..size + 2,
+            entry.body..entry.body + length,
+        ));
         counts.extend(pointers(input, entry));
     }
     counts
@@ -234,7 +237,10 @@ fn pointers(input: &Input, entry: Entry) -> Vec<Count> {
     let read = |range: Range<usize>| input.file.get(range).map(get);
     match entry.kind {
         CONTINUATION => {
-            let (address, length) = (field(entry.body, offsets), field(entry.body + offsets, lengths));
+            let (address, length) = (
+                field(entry.body, offsets),
+                field(entry.body + offsets, lengths),
+            );
             let (Some(from), Some(count)) = (read(address.clone()), read(length.clone())) else {
                 return Vec::new();
             };
@@ -243,7 +249,10 @@ fn pointers(input: &Input, entry: Entry) -> Vec<Count> {
         }
         LAYOUT if read(field(entry.body, 2)) == Some(0x0103) => {
             let address = field(entry.body + 2, offsets);
-            read(address.clone()).map(|_| Count::Address(address)).into_iter().collect()
+            read(address.clone())
+                .map(|_| Count::Address(address))
+                .into_iter()
+                .collect()
         }
         _ => Vec::new(),
     }

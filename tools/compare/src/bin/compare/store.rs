@@ -110,7 +110,10 @@ fn choose(shown: &Shown, seed: u64, count: usize) -> Vec<Chosen> {
 /// Features in a random order, so that none is left out for its name alone, rank by rank.
 fn ranked(shown: &Shown, seed: u64) -> Vec<(&Feature, &Input)> {
     let mut random = Random::new(seed, u64::MAX);
-    let mut features: Vec<_> = shown.iter().map(|feature| (random.next(), feature)).collect();
+    let mut features: Vec<_> = shown
+        .iter()
+        .map(|feature| (random.number(), feature))
+        .collect();
     features.sort_by_key(|(order, _)| *order);
     let at_rank = |rank: usize| {
         let features = features.iter();
