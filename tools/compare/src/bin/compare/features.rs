@@ -52,7 +52,12 @@ pub fn of_refusal(input: &Input, number: u64, entries: &[Entry]) -> Vec<Feature>
         feature(&group, format!("length width {}", input.length_width)),
     ];
     if let Some(last) = entries.last() {
+        let left = input.file.len().saturating_sub(last.body).min(16);
         features.push(feature(&group, format!("type {}", few(last.kind))));
+        features.push(feature(
+            &group,
+            format!("type {} left {left}", few(last.kind)),
+        ));
     }
     let place = match entries.last() {
         Some(last) if BY_MESSAGE.contains(&number) => Some(last.body),
@@ -129,7 +134,14 @@ fn of_row(input: &Input, row: &Row) -> Vec<Feature> {
         }
         12 => features.extend(of_attribute(group, input, row)),
         10 => features.push(feature(group, format!("flags {}", second & 3))),
-        11 => features.push(feature(group, format!("version {first} filters {second}"))),
+        11 => {
+            let at = if first == 1 { body + 10 } else { body + 2 };
+            let number = input.file.get(at..at + 2).map_or(0, get);
+            features.push(feature(group, format!("version {first} filters {second}")));
+            if first == 1 && second > 0 {
+                features.push(feature(group, format!("name {number}")));
+            }
+        }
         _ => features.push(feature(group, format!("type {}", row.kind))),
     }
     features
@@ -144,7 +156,7 @@ fn of_type(group: &str, input: &Input, at: usize) -> Vec<Feature> {
         6 => byte(input, at + 1).min(4),
         _ => 0,
     };
-    vec![
+    let mut features = vec![
         feature(
             group,
             format!("type {class_and_version} inside {}", few(inside)),
@@ -153,7 +165,20 @@ fn of_type(group: &str, input: &Input, at: usize) -> Vec<Feature> {
             group,
             format!("type {} size {}", class_and_version & 15, size.min(64)),
         ),
-    ]
+    ];
+    if class_and_version & 15 == 6 && inside > 0 {
+        let rest = input.file.get(at + 8..).unwrap_or_default();
+        let name = rest
+            .iter()
+            .take(4200)
+            .take_while(|byte| **byte != 0)
+            .count();
+        features.push(feature(
+            group,
+            format!("type {class_and_version} member {name}"),
+        ));
+    }
+    features
 }
 
 fn of_attribute(group: &str, input: &Input, row: &Row) -> Vec<Feature> {
