@@ -11,6 +11,8 @@ type Plan = Vec<Vec<usize>>;
 const ORDERS: u64 = 4;
 /// Flag bit 5: the header has times.
 const TIMES: u64 = 32;
+/// With more chunks than these, each has few messages.
+const CROWDED: usize = 8;
 
 impl Maker<'_> {
     /// A file with a header in it.
@@ -177,28 +179,18 @@ impl Maker<'_> {
     /// Entries, and a gap that is too short for one.
     fn chunk(&mut self, plan: &Plan, number: usize, flags: u64, held: Option<&Piece>) -> Piece {
         let orders = flags & ORDERS != 0;
-        let crowded = plan.len() > 8;
-        let most = if crowded {
-            1
-        } else if number == 0 {
-            6
-        } else {
-            3
+        let most = match number {
+            _ if plan.len() > CROWDED => 1,
+            0 => 6,
+            _ => 3,
         };
-        let mut opened = plan[number].clone();
-        let mut entries: Vec<Option<usize>> =
-            (0..self.random.below(most + 1)).map(|_| None).collect();
-        for block in opened.drain(..) {
-            let at = self.random.below(entries.len() as u64 + 1) as usize;
-            entries.insert(at, Some(block));
-        }
         let mut chunk = Piece::default();
         if let Some(block) = held {
             let entry = self.entry(0, block, orders);
             chunk.append(&entry);
         }
-        for entry in entries {
-            let entry = match entry {
+        for opened in self.contents(&plan[number], most) {
+            let entry = match opened {
                 Some(block) => self.continuation(block, orders),
                 None => self.message(orders),
             };
@@ -207,6 +199,16 @@ impl Maker<'_> {
         let gap = self.random.pick(&[0, 0, 1, if orders { 5 } else { 3 }]);
         chunk.bytes.extend(self.bytes(gap));
         chunk
+    }
+
+    /// What a chunk holds, in its order: messages, and among them the blocks that it opens.
+    fn contents(&mut self, opened: &[usize], most: u64) -> Vec<Option<usize>> {
+        let mut contents = vec![None; self.random.below(most + 1) as usize];
+        for block in opened {
+            let at = self.random.below(contents.len() as u64 + 1) as usize;
+            contents.insert(at, Some(*block));
+        }
+        contents
     }
 
     fn message(&mut self, orders: bool) -> Piece {
