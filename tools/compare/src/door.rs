@@ -70,7 +70,7 @@ pub fn rust_answer(input: &Input) -> Answer {
 }
 
 /// `data_object` alone, as a caller of the Rust has it: the position after the header and how many
-/// attributes it holds, or nothing where it refuses.
+/// attributes it holds, or nothing where it refuses. Where `open` was not called, nothing is logged.
 pub fn rust_data_object(input: &Input) -> Option<(usize, usize)> {
     let mut stream = stream_at(input, input.position as usize).ok()?;
     let object = data_object::data_object("header")

@@ -130,7 +130,7 @@ impl Port {
     /// The port's answer, first with few rows, and where those do not do with all. The table comes
     /// as the call before left it, and its words after the last row must be zero.
     pub fn answer(&mut self, input: &Input) -> Outcome {
-        let mut words = FEW_ROWS * ROW_WORDS;
+        let mut words = self.table.len().min(FEW_ROWS * ROW_WORDS);
         let mut object = call(input, &mut self.table[..words]);
         if object.refused == TABLE_TOO_SMALL {
             words = self.table.len();
