@@ -15,18 +15,22 @@ const TIMES: u64 = 32;
 const CROWDED: usize = 8;
 
 impl Maker<'_> {
-    /// A file with a header in it.
+    /// A file with a header in it. A block lies behind the header, before it, or in a body of it.
     pub fn input(&mut self) -> Input {
         let flags = self.header_flags();
         let plan = self.plan();
-        let inside = plan.len() == 2 && self.random.rarely(150);
-        let mut file = Piece::default();
-        let before = self.random.pick(&[0, 0, 0, 1, 5, 8, 40]);
-        file.bytes = self.bytes(before);
         let mut blocks: Vec<Piece> = (1..plan.len())
             .map(|n| self.block(&plan, n, flags))
             .collect();
+        let inside = plan.len() == 2 && self.random.rarely(150);
         let held = if inside { blocks.pop() } else { None };
+        let first = self.random.rarely(80);
+        let before = if first { blocks.pop() } else { None };
+        let mut file = Piece::default();
+        let gap = self.random.pick(&[0, 0, 0, 1, 5, 8, 40]);
+        file.bytes = self.bytes(gap);
+        file.append(&before.unwrap_or_default());
+        let position = file.len() as u64;
         let header = self.header(&plan, flags, held.as_ref());
         file.append(&header);
         for block in &blocks {
@@ -35,7 +39,7 @@ impl Maker<'_> {
             file.append(block);
         }
         self.data(&mut file);
-        self.around(file.resolve(), before as u64)
+        self.around(file.resolve(), position)
     }
 
     /// Bytes for layouts to point to.

@@ -67,10 +67,14 @@ impl<'r> Maker<'r> {
         (0..count).map(|_| byte()).collect()
     }
 
+    pub fn letters(&mut self, count: usize) -> Vec<u8> {
+        let mut letter = || b'a' + self.random.below(26) as u8;
+        (0..count).map(|_| letter()).collect()
+    }
+
     /// A text of letters, now and then with zeros at its end or bytes that are no UTF-8.
     pub fn text(&mut self, count: usize) -> Vec<u8> {
-        let letter = |random: &mut Random| b'a' + random.below(26) as u8;
-        let mut text: Vec<u8> = (0..count).map(|_| letter(self.random)).collect();
+        let mut text = self.letters(count);
         if count > 0 && self.random.rarely(250) {
             let zeros = self.random.within(1, 3).min(count as u64) as usize;
             text[count - zeros..].fill(0);

@@ -88,43 +88,37 @@ impl Maker<'_> {
         }
     }
 
-    /// What stands before a member's type.
+    /// What stands before a member's type. A name that is longer than its limit goes on through the
+    /// bytes after it: the first of them closes it, whatever it is.
     fn member(&mut self, piece: &mut Piece, version: u64, size: u64) {
-        let length = self.member_name_length(version);
-        let name: Vec<u8> = (0..length)
-            .map(|_| b'a' + self.random.below(26) as u8)
-            .collect();
-        piece.bytes.extend(name);
-        piece.put(0, 1);
-        if version == 3 {
-            let offset = self.random.byte();
-            piece.put(offset.into(), u8::from(size > 0));
-            return;
-        }
-        // From 256 on the name's tail stands in for closing byte and skip.
-        let closed = (length + 1).min(263);
-        let skip = if length < 256 {
-            (6_usize.wrapping_sub(length)) % 8
-        } else {
-            263 - closed
+        let limit = if version == 3 { 4095 } else { 255 };
+        let length = self.member_name_length(limit);
+        let name = length.min(limit);
+        let letters = self.letters(name);
+        piece.bytes.extend(letters);
+        let after = match version {
+            3 => usize::from(size > 0),
+            _ => (6_usize.wrapping_sub(name)) % 8 + 4,
         };
-        let skipped = self.bytes(skip + 4);
-        piece.bytes.extend(skipped);
-        let dimension = self.choose(&[0], &[1, 0x100, 0x8000_0000]);
-        piece.put(dimension, 4);
-        let ignored = self.bytes(27);
-        piece.bytes.extend(ignored);
+        let closing = match length > limit {
+            true => self.letters(1 + after),
+            false => [&[0], &self.bytes(after)[..]].concat(),
+        };
+        piece.bytes.extend(closing);
+        if version != 3 {
+            let dimension = self.choose(&[0], &[1, 0x100, 0x8000_0000]);
+            piece.put(dimension, 4);
+            let ignored = self.bytes(27);
+            piece.bytes.extend(ignored);
+        }
     }
 
-    fn member_name_length(&mut self, version: u64) -> usize {
+    fn member_name_length(&mut self, limit: usize) -> usize {
         let some = self.random.below(12) as usize;
-        if !self.random.rarely(15) {
-            return self.random.pick(&[0, 1, 6, 7, 8, some, some, some]);
+        if self.random.rarely(15) {
+            return self.random.pick(&[limit - 8, limit - 1, limit, limit + 1]);
         }
-        match version {
-            3 => self.random.pick(&[256, 4093, 4094, 4095, 4096]),
-            _ => self.random.pick(&[247, 254, 255, 256, 257, 261, 262, 263]),
-        }
+        self.random.pick(&[0, 1, 6, 7, 8, some, some, some])
     }
 
     /// Lists or compounds around one flat type, at the limit of levels.
