@@ -80,7 +80,7 @@ pub fn of_header(input: &Input, header: &Header) -> Vec<Feature> {
         feature("header", format!("flags {flags}")),
         feature("header", format!("rows {}", header.rows.len())),
         feature("header", end_of_file(input)),
-        feature("header", format!("position {}", input.position)),
+        feature("header", format!("position {}", input.position.min(9))),
         feature("header", widths(input)),
     ];
     if blocks > 0 {
