@@ -34,7 +34,7 @@ impl Maker<'_> {
     fn name_size(&mut self) -> u64 {
         let some = self.random.below(20);
         if self.random.rarely(4) {
-            return self.random.pick(&[255, 256, 4095, 4096]);
+            return self.random.pick(&[255, 256, 4095, 4096, 4097]);
         }
         self.random
             .pick(&[0, 1, 6, 7, 8, 9, 15, 16, 17, some, some, some])

@@ -177,8 +177,11 @@ impl Maker<'_> {
     fn filter_pipeline(&mut self) -> Piece {
         let mut piece = Piece::default();
         let version = self.choose(&[1, 2], &[0, 3, 255]);
-        let many = self.random.rarely(20);
-        let count = if many { 31 } else { self.random.below(4) };
+        let some = self.random.below(4);
+        let count = match self.random.rarely(20) {
+            true => self.random.pick(&[31, 31, 32]),
+            false => some,
+        };
         let told = self.choose(&[count], &[32, 33, 255, 31]);
         piece.put(version, 1);
         piece.put(told, 1);
@@ -202,10 +205,10 @@ impl Maker<'_> {
             piece.put(told, 2);
         }
         self.numbers(piece, 1, 2);
-        let values = if self.random.rarely(2) {
-            4096
-        } else {
-            self.random.below(5)
+        let some = self.random.below(5);
+        let values = match self.random.rarely(3) {
+            true => self.random.pick(&[4096, 4096, 4097]),
+            false => some,
         };
         let told = self.choose(&[values], &[4096, 4097, 4098, 65_535]);
         piece.put(told, 2);
