@@ -96,99 +96,88 @@ pub fn of_header(input: &Input, header: &Header) -> Vec<Feature> {
 }
 
 fn of_row(input: &Input, row: &Row) -> Vec<Feature> {
-    let group = group_of(row.kind);
     let body = row.body as usize;
-    let (first, second) = (byte(input, body), byte(input, body + 1));
-    let mut features = vec![
-        feature(group, format!("flags {}", row.flags)),
-        feature(group, format!("size {}", row.size.min(40))),
+    let mut details = vec![
+        format!("flags {}", row.flags),
+        format!("size {}", row.size.min(40)),
     ];
-    match row.kind {
-        1 => {
-            let flags = byte(input, body + 2) & 3;
-            features.push(feature(group, format!("{first} {second} {flags}")));
-            features.push(feature(group, widths(input)));
-        }
-        2 | 21 => {
-            features.push(feature(
-                group,
-                format!("flags {} {}", second & 3, widths(input)),
-            ));
-        }
-        3 => features.extend(of_type(group, input, body)),
-        5 => {
-            let defined = if first == 3 {
-                second & 32
-            } else {
-                byte(input, body + 3)
-            };
-            features.push(feature(
-                group,
-                format!("version {first} {second} defined {defined}"),
-            ));
-        }
-        8 => {
-            let length = row.part.as_ref().map_or(0, Vec::len);
-            features.push(feature(group, format!("class {second} {}", widths(input))));
-            features.push(feature(group, format!("class {second} length {length}")));
-        }
-        12 => features.extend(of_attribute(group, input, row)),
-        10 => features.push(feature(group, format!("flags {}", second & 3))),
-        11 => {
-            let at = if first == 1 { body + 10 } else { body + 2 };
-            let number = input.file.get(at..at + 2).map_or(0, get);
-            features.push(feature(group, format!("version {first} filters {second}")));
-            if first == 1 && second > 0 {
-                features.push(feature(group, format!("name {number}")));
-            }
-        }
-        _ => features.push(feature(group, format!("type {}", row.kind))),
+    details.extend(match row.kind {
+        3 => of_type(input, body),
+        8 => of_layout(input, row),
+        11 => of_filters(input, body),
+        12 => of_attribute(input, row),
+        _ => vec![of_fields(input, row)],
+    });
+    if row.kind == 1 {
+        details.push(widths(input));
     }
-    features
+    let group = group_of(row.kind);
+    let named = details.into_iter().map(|detail| feature(group, detail));
+    named.collect()
 }
 
-fn of_type(group: &str, input: &Input, at: usize) -> Vec<Feature> {
+/// The fields of a short message that decide how it is read.
+fn of_fields(input: &Input, row: &Row) -> String {
+    let body = row.body as usize;
+    let [first, second, third, fourth] = [0, 1, 2, 3].map(|at| byte(input, body + at));
+    match row.kind {
+        1 => format!("{first} {second} {}", third & 3),
+        2 | 21 => format!("flags {} {}", second & 3, widths(input)),
+        5 if first == 3 => format!("version 3 {second} defined {}", second & 32),
+        5 => format!("version {first} {second} defined {fourth}"),
+        10 => format!("flags {}", second & 3),
+        kind => format!("type {kind}"),
+    }
+}
+
+fn of_layout(input: &Input, row: &Row) -> Vec<String> {
+    let class = byte(input, row.body as usize + 1);
+    let length = row.part.as_ref().map_or(0, Vec::len);
+    vec![
+        format!("class {class} {}", widths(input)),
+        format!("class {class} length {length}"),
+    ]
+}
+
+fn of_filters(input: &Input, body: usize) -> Vec<String> {
+    let (version, count) = (byte(input, body), byte(input, body + 1));
+    let mut details = vec![format!("version {version} filters {count}")];
+    if version == 1 && count > 0 {
+        let name = input.file.get(body + 10..body + 12).map_or(0, get);
+        details.push(format!("name {name}"));
+    }
+    details
+}
+
+fn of_type(input: &Input, at: usize) -> Vec<String> {
     let class_and_version = byte(input, at);
-    let size = byte(input, at + 4);
+    let class = class_and_version & 15;
+    let size = byte(input, at + 4).min(64);
     // What a list holds, or how many members a compound has.
-    let inside = match class_and_version & 15 {
-        9 => byte(input, at + 8),
+    let inside = match class {
+        9 => few(byte(input, at + 8)),
         6 => byte(input, at + 1).min(4),
         _ => 0,
     };
-    let mut features = vec![
-        feature(
-            group,
-            format!("type {class_and_version} inside {}", few(inside)),
-        ),
-        feature(
-            group,
-            format!("type {} size {}", class_and_version & 15, size.min(64)),
-        ),
+    let mut details = vec![
+        format!("type {class_and_version} inside {inside}"),
+        format!("type {class} size {size}"),
     ];
-    if class_and_version & 15 == 6 && inside > 0 {
+    if class == 6 && inside > 0 {
         let rest = input.file.get(at + 8..).unwrap_or_default();
-        let name = rest
-            .iter()
-            .take(4200)
-            .take_while(|byte| **byte != 0)
-            .count();
-        features.push(feature(
-            group,
-            format!("type {class_and_version} member {name}"),
-        ));
+        let name = rest.iter().take(4200).take_while(|byte| **byte != 0);
+        details.push(format!("type {class_and_version} member {}", name.count()));
     }
-    features
+    details
 }
 
-fn of_attribute(group: &str, input: &Input, row: &Row) -> Vec<Feature> {
+fn of_attribute(input: &Input, row: &Row) -> Vec<String> {
     let body = row.body as usize;
     let version = byte(input, body);
     let name_size = input.file.get(body + 2..body + 4).map_or(0, get) as usize;
-    let padding = if version == 1 && name_size < 8 {
-        (8 - name_size) % 8
-    } else {
-        0
+    let padding = match name_size {
+        1..8 if version == 1 => 8 - name_size,
+        _ => 0,
     };
     let at = body + if version == 3 { 9 } else { 8 } + name_size + padding;
     let value = row.part.as_ref().map(Vec::len);
@@ -198,27 +187,16 @@ fn of_attribute(group: &str, input: &Input, row: &Row) -> Vec<Feature> {
         Some(_) => "some",
     };
     let class = byte(input, at) & 15;
-    let mut features = vec![
-        feature(group, format!("version {version} name {name_size}")),
-        feature(
-            group,
-            format!("version {version} type {class} value {presence}"),
-        ),
-        feature(
-            group,
-            format!("version {version} value {presence} {}", widths(input)),
-        ),
-        feature(
-            group,
-            format!("value length {}", value.unwrap_or(0).min(64)),
-        ),
-        feature(
-            group,
-            format!("name length {}", row.name.as_ref().map_or(0, Vec::len)),
-        ),
+    let name_length = row.name.as_ref().map_or(0, Vec::len);
+    let mut details = vec![
+        format!("version {version} name {name_size}"),
+        format!("version {version} type {class} value {presence}"),
+        format!("version {version} value {presence} {}", widths(input)),
+        format!("value length {}", value.unwrap_or(0).min(64)),
+        format!("name length {name_length}"),
     ];
-    features.extend(of_type(group, input, at));
-    features
+    details.extend(of_type(input, at));
+    details
 }
 
 /// Bodies that use more bytes than their size says.
