@@ -1,0 +1,207 @@
+//! Wrong ports: each changes one thing in the port's answer, where it is there. The comparison must
+//! find every one of them.
+
+use sides::answer::{DataType, Format, Header, Row};
+use sides::port::Outcome;
+
+pub struct Breakage {
+    pub name: &'static str,
+    change: fn(Outcome) -> Outcome,
+}
+
+const fn breakage(name: &'static str, change: fn(Outcome) -> Outcome) -> Breakage {
+    Breakage { name, change }
+}
+
+pub const ALL: &[Breakage] = &[
+    breakage("next", |o| header(o, |h| h.next += 1)),
+    breakage("entries", |o| header(o, |h| h.entries += 1)),
+    breakage("entries-of-many-blocks", |o| header(o, few_blocks)),
+    breakage("row-order", |o| header(o, row_order)),
+    breakage("row-dropped", |o| header(o, |h| drop(h.rows.pop()))),
+    breakage("flags", |o| rows(o, |row| row.flags &= 1)),
+    breakage("size", |o| rows(o, |row| row.size &= 0xff)),
+    breakage("body", |o| rows(o, |row| row.body ^= 1)),
+    breakage("unknown-type", |o| rows(o, unknown_type)),
+    breakage("name", |o| rows(o, |row| shorten(&mut row.name, 1))),
+    breakage("longest-name", |o| {
+        rows(o, |row| shorten(&mut row.name, 4096))
+    }),
+    breakage("value", |o| rows(o, |row| shorten(&mut row.part, 60))),
+    breakage("value-empty", |o| rows(o, value_empty)),
+    breakage("data", |o| header(o, |h| h.data.truncate(7))),
+    breakage("data-of-first-layout", |o| header(o, first_data)),
+    breakage("kind", |o| header(o, |h| h.data_space.kind = Some(0))),
+    breakage("fourth-size", |o| {
+        header(o, |h| h.data_space.sizes.sizes[3] = 0)
+    }),
+    breakage("size-at-its-limit", |o| header(o, size_limit)),
+    breakage("maximum-of-all-ones", |o| header(o, all_ones)),
+    breakage("class-bits", |o| {
+        header(o, |h| h.data_type.class_bit_field &= 0xffff)
+    }),
+    breakage("list-size", |o| header(o, |h| h.data_type.list_size = None)),
+    breakage("list-format", |o| header(o, list_format)),
+    breakage("bias", |o| header(o, bias)),
+    breakage("link-order", |o| {
+        header(o, |h| h.link_info.address_btree_order = None)
+    }),
+    breakage("link-index", |o| header(o, link_index)),
+    breakage("group-length", |o| {
+        header(o, |h| h.group_info.length_of_entries = None)
+    }),
+    breakage("attribute-index", |o| {
+        header(o, |h| h.attribute_info.maximum_creation_index &= 0xff)
+    }),
+    breakage("blocks-of-24-levels", |o| {
+        refuse(o, |h| h.entries >= h.rows.len() as u64 + 25)
+    }),
+    breakage("type-of-size-63", |o| refuse(o, |h| h.data_type.size == 63)),
+    breakage("refusal-of-ranges", |o| accept(o, 19)),
+    breakage("refusal-of-levels", |o| accept(o, 21)),
+    breakage("always-outside", |o| refuse_with(o, 14)),
+    breakage("entries-outside", |o| refuse_with(o, 23)),
+];
+
+pub fn named(name: &str) -> Result<&'static Breakage, String> {
+    let names = || ALL.iter().map(|b| b.name).collect::<Vec<_>>().join(", ");
+    let found = ALL.iter().find(|breakage| breakage.name == name);
+    found.ok_or_else(|| format!("{name} is none of {}", names()))
+}
+
+impl Breakage {
+    pub fn apply(&self, outcome: Outcome) -> Outcome {
+        (self.change)(outcome)
+    }
+}
+
+/// Changes an accepted header.
+fn header(outcome: Outcome, change: fn(&mut Header)) -> Outcome {
+    match outcome {
+        Outcome::Read(mut header) => {
+            change(&mut header);
+            Outcome::Read(header)
+        }
+        refused => refused,
+    }
+}
+
+/// Changes every row of an accepted header.
+fn rows(outcome: Outcome, change: fn(&mut Row)) -> Outcome {
+    match outcome {
+        Outcome::Read(mut header) => {
+            header.rows.iter_mut().for_each(change);
+            Outcome::Read(header)
+        }
+        refused => refused,
+    }
+}
+
+/// Refuses some of the accepted headers.
+fn refuse(outcome: Outcome, which: fn(&Header) -> bool) -> Outcome {
+    match outcome {
+        Outcome::Read(header) if which(&header) => Outcome::Refused(3),
+        other => other,
+    }
+}
+
+/// Refuses accepted headers with a number that is no part of the comparison.
+fn refuse_with(outcome: Outcome, number: u64) -> Outcome {
+    match outcome {
+        Outcome::Read(_) => Outcome::Refused(number),
+        refused => refused,
+    }
+}
+
+/// Accepts, as an empty header, what is refused with a number.
+fn accept(outcome: Outcome, number: u64) -> Outcome {
+    match outcome {
+        Outcome::Refused(refused) if refused == number => Outcome::Read(Box::new(empty())),
+        other => other,
+    }
+}
+
+fn empty() -> Header {
+    Header {
+        next: 0,
+        entries: 0,
+        rows: Vec::new(),
+        data_space: Default::default(),
+        data_type: DataType {
+            class_and_version: 0,
+            class_bit_field: 0,
+            size: 0,
+            list_size: None,
+            format: Format::None,
+        },
+        link_info: Default::default(),
+        group_info: Default::default(),
+        attribute_info: Default::default(),
+        data: Vec::new(),
+    }
+}
+
+fn few_blocks(header: &mut Header) {
+    header.entries = header.entries.min(header.rows.len() as u64 + 8);
+}
+
+/// Rows by their place in the file and not by the reading's order.
+fn row_order(header: &mut Header) {
+    header.rows.sort_by_key(|row| row.body);
+}
+
+fn unknown_type(row: &mut Row) {
+    if row.kind > 21 {
+        row.kind = 0;
+    }
+}
+
+/// Drops the last byte of a text of some length or more.
+fn shorten(text: &mut Option<Vec<u8>>, length: usize) {
+    if let Some(text) = text.as_mut().filter(|text| text.len() >= length) {
+        text.pop();
+    }
+}
+
+fn value_empty(row: &mut Row) {
+    if row.kind == 12 && row.part.as_ref().is_some_and(Vec::is_empty) {
+        row.part = None;
+    }
+}
+
+fn first_data(header: &mut Header) {
+    let layout = header.rows.iter().find(|row| row.kind == 8);
+    header.data = layout.and_then(|row| row.part.clone()).unwrap_or_default();
+}
+
+fn size_limit(header: &mut Header) {
+    for size in &mut header.data_space.sizes.sizes {
+        *size = (*size).min(999_999);
+    }
+}
+
+fn all_ones(header: &mut Header) {
+    for maximum in &mut header.data_space.maxima.sizes {
+        if *maximum == u64::MAX >> 8 {
+            *maximum = u64::MAX;
+        }
+    }
+}
+
+fn list_format(header: &mut Header) {
+    if header.data_type.list_size.is_some() {
+        header.data_type.format = Format::None;
+    }
+}
+
+fn bias(header: &mut Header) {
+    if let Format::Float(fields) = &mut header.data_type.format {
+        fields[6] = fields[6].min(127);
+    }
+}
+
+fn link_index(header: &mut Header) {
+    if let Some(index) = &mut header.link_info.maximum_creation_index {
+        *index &= 0xffff_ffff;
+    }
+}

@@ -1,0 +1,264 @@
+//! What an input shows: labels by which the stored inputs are chosen and named.
+
+use sides::answer::{Header, Row};
+use sides::door::Entry;
+use sides::input::{Input, get};
+
+/// A group, which names the stored input, and what is shown in it.
+#[derive(Clone, Debug, PartialEq, Eq, PartialOrd, Ord, Hash)]
+pub struct Feature {
+    pub group: String,
+    pub detail: String,
+}
+
+fn feature(group: &str, detail: String) -> Feature {
+    Feature {
+        group: group.into(),
+        detail,
+    }
+}
+
+/// The name of a message type in the names of stored inputs.
+fn group_of(kind: u64) -> &'static str {
+    match kind {
+        0 => "00-nil",
+        1 => "01-dataspace",
+        2 => "02-link-info",
+        3 => "03-datatype",
+        4 => "04-fill-old",
+        5 => "05-fill",
+        8 => "08-layout",
+        10 => "10-group-info",
+        11 => "11-filter-pipeline",
+        12 => "12-attribute",
+        16 => "16-continuation",
+        21 => "21-attribute-info",
+        _ => "unknown-type",
+    }
+}
+
+/// Refusals that no message is the cause of.
+const BY_HEADER: std::ops::RangeInclusive<u64> = 4..=7;
+/// Refusals of one message type each; the rest may come anywhere.
+const BY_MESSAGE: std::ops::RangeInclusive<u64> = 9..=19;
+
+/// What a refused input shows: the number, where it arose, and the first bytes there.
+pub fn of_refusal(input: &Input, number: u64, entries: &[Entry]) -> Vec<Feature> {
+    let group = format!("refused-{number:02}");
+    let mut features = vec![
+        feature(&group, format!("entries {}", entries.len().min(30))),
+        feature(&group, end_of_file(input)),
+        feature(&group, format!("offset width {}", input.offset_width)),
+        feature(&group, format!("length width {}", input.length_width)),
+    ];
+    if let Some(last) = entries.last() {
+        let left = input.file.len().saturating_sub(last.body).min(16);
+        features.push(feature(&group, format!("type {}", few(last.kind))));
+        features.push(feature(
+            &group,
+            format!("type {} left {left}", few(last.kind)),
+        ));
+    }
+    let place = match entries.last() {
+        Some(last) if BY_MESSAGE.contains(&number) => Some(last.body),
+        _ if BY_HEADER.contains(&number) => Some(input.position as usize + 4),
+        _ => None,
+    };
+    if let Some(at) = place {
+        let bytes = [at, at + 1, at + 2].map(|at| few(byte(input, at)));
+        features.push(feature(&group, format!("bytes {} {}", bytes[0], bytes[1])));
+        features.push(feature(&group, format!("third byte {}", bytes[2])));
+    }
+    features
+}
+
+/// What an accepted input shows.
+pub fn of_header(input: &Input, header: &Header) -> Vec<Feature> {
+    let flags = byte(input, input.position as usize + 5);
+    let blocks = header.entries - header.rows.len() as u64;
+    let mut features = vec![
+        feature("header", format!("flags {flags}")),
+        feature("header", format!("rows {}", header.rows.len())),
+        feature("header", end_of_file(input)),
+        feature("header", format!("position {}", input.position.min(9))),
+        feature("header", widths(input)),
+    ];
+    if blocks > 0 {
+        features.push(feature("16-continuation", format!("blocks {blocks}")));
+        features.push(feature("16-continuation", widths(input)));
+    }
+    for row in &header.rows {
+        features.extend(of_row(input, row));
+    }
+    features.extend(of_sizes(header, blocks, flags));
+    features.extend(of_records(header));
+    features
+}
+
+fn of_row(input: &Input, row: &Row) -> Vec<Feature> {
+    let body = row.body as usize;
+    let mut details = vec![
+        format!("flags {}", row.flags),
+        format!("size {}", row.size.min(40)),
+    ];
+    details.extend(match row.kind {
+        3 => of_type(input, body),
+        8 => of_layout(input, row),
+        11 => of_filters(input, body),
+        12 => of_attribute(input, row),
+        _ => vec![of_fields(input, row)],
+    });
+    if row.kind == 1 {
+        details.push(widths(input));
+    }
+    let group = group_of(row.kind);
+    let named = details.into_iter().map(|detail| feature(group, detail));
+    named.collect()
+}
+
+/// The fields of a short message that decide how it is read.
+fn of_fields(input: &Input, row: &Row) -> String {
+    let body = row.body as usize;
+    let [first, second, third, fourth] = [0, 1, 2, 3].map(|at| byte(input, body + at));
+    match row.kind {
+        1 => format!("{first} {second} {}", third & 3),
+        2 | 21 => format!("flags {} {}", second & 3, widths(input)),
+        5 if first == 3 => format!("version 3 {second} defined {}", second & 32),
+        5 => format!("version {first} {second} defined {fourth}"),
+        10 => format!("flags {}", second & 3),
+        kind => format!("type {kind}"),
+    }
+}
+
+fn of_layout(input: &Input, row: &Row) -> Vec<String> {
+    let class = byte(input, row.body as usize + 1);
+    let length = row.part.as_ref().map_or(0, Vec::len);
+    vec![
+        format!("class {class} {}", widths(input)),
+        format!("class {class} length {length}"),
+    ]
+}
+
+fn of_filters(input: &Input, body: usize) -> Vec<String> {
+    let (version, count) = (byte(input, body), byte(input, body + 1));
+    let mut details = vec![format!("version {version} filters {count}")];
+    if version == 1 && count > 0 {
+        let name = input.file.get(body + 10..body + 12).map_or(0, get);
+        details.push(format!("name {name}"));
+    }
+    details
+}
+
+fn of_type(input: &Input, at: usize) -> Vec<String> {
+    let class_and_version = byte(input, at);
+    let class = class_and_version & 15;
+    let size = byte(input, at + 4).min(64);
+    // What a list holds, or how many members a compound has.
+    let inside = match class {
+        9 => few(byte(input, at + 8)),
+        6 => byte(input, at + 1).min(4),
+        _ => 0,
+    };
+    let mut details = vec![
+        format!("type {class_and_version} inside {inside}"),
+        format!("type {class} size {size}"),
+    ];
+    if class == 6 && inside > 0 {
+        let rest = input.file.get(at + 8..).unwrap_or_default();
+        let name = rest.iter().take(4200).take_while(|byte| **byte != 0);
+        details.push(format!("type {class_and_version} member {}", name.count()));
+    }
+    details
+}
+
+fn of_attribute(input: &Input, row: &Row) -> Vec<String> {
+    let body = row.body as usize;
+    let version = byte(input, body);
+    let name_size = input.file.get(body + 2..body + 4).map_or(0, get) as usize;
+    let padding = match name_size {
+        1..8 if version == 1 => 8 - name_size,
+        _ => 0,
+    };
+    let at = body + if version == 3 { 9 } else { 8 } + name_size + padding;
+    let value = row.part.as_ref().map(Vec::len);
+    let presence = match value {
+        None => "absent",
+        Some(0) => "empty",
+        Some(_) => "some",
+    };
+    let class = byte(input, at) & 15;
+    let name_length = row.name.as_ref().map_or(0, Vec::len);
+    let mut details = vec![
+        format!("version {version} name {name_size}"),
+        format!("version {version} type {class} value {presence}"),
+        format!("version {version} value {presence} {}", widths(input)),
+        format!("value length {}", value.unwrap_or(0).min(64)),
+        format!("name length {name_length}"),
+    ];
+    details.extend(of_type(input, at));
+    details
+}
+
+/// Bodies that use more bytes than their size says.
+fn of_sizes(header: &Header, blocks: u64, flags: u8) -> Vec<Feature> {
+    let prefix = if flags & 4 == 0 { 4 } else { 6 };
+    let longer = |pair: &&[Row]| pair[0].body + pair[0].size + prefix < pair[1].body;
+    let pairs = header.rows.windows(2).filter(longer);
+    let pairs = pairs.take(if blocks == 0 { usize::MAX } else { 0 });
+    pairs
+        .map(|pair| feature(group_of(pair[0].kind), "longer than its size".into()))
+        .collect()
+}
+
+fn of_records(header: &Header) -> Vec<Feature> {
+    let space = &header.data_space;
+    let mut features = vec![
+        feature(
+            "records",
+            format!(
+                "format {:?}",
+                std::mem::discriminant(&header.data_type.format)
+            ),
+        ),
+        feature(
+            "records",
+            format!("list size {:?}", header.data_type.list_size),
+        ),
+        feature("records", format!("data {}", header.data.len())),
+    ];
+    for size in space.sizes.sizes.iter().chain(&space.maxima.sizes) {
+        let all_ones = size.trailing_ones() == 64 - size.leading_zeros();
+        if all_ones || [999_999, 1_000_000].contains(size) {
+            features.push(feature("01-dataspace", format!("size {size}")));
+        }
+    }
+    features
+}
+
+/// Numbers that mean something in many fields; the rest are one.
+fn few(byte: u8) -> u8 {
+    match byte {
+        0..=22 | 31..=33 | 49 | 51 | 54 | 57 | 127..=130 | 255 => byte,
+        _ => 200,
+    }
+}
+
+fn byte(input: &Input, at: usize) -> u8 {
+    input.file.get(at).copied().unwrap_or(0)
+}
+
+fn widths(input: &Input) -> String {
+    format!("widths {} {}", input.offset_width, input.length_width)
+}
+
+fn end_of_file(input: &Input) -> String {
+    let length = input.file.len() as u64;
+    let place = match input.end_of_file {
+        0 => "0",
+        u64::MAX => "largest",
+        end if end < length => "below the length",
+        end if end == length => "the length",
+        _ => "above the length",
+    };
+    format!("end of file {place}")
+}

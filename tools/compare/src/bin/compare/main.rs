@@ -1,0 +1,52 @@
+//! Compares the port with the Rust that it was ported from, on inputs from a seed and on the
+//! headers of real files.
+
+mod arguments;
+mod breakage;
+mod features;
+mod judge;
+mod run;
+mod self_test;
+mod shrink;
+mod store;
+
+use std::process::ExitCode;
+
+use arguments::{Arguments, Mode};
+
+fn main() -> ExitCode {
+    let arguments = match Arguments::parse(std::env::args().skip(1)) {
+        Ok(arguments) => arguments,
+        Err(reason) => {
+            eprintln!("compare: {reason}\n{}", arguments::USAGE);
+            return ExitCode::from(2);
+        }
+    };
+    sides::door::open();
+    let worker = std::thread::Builder::new()
+        .stack_size(sides::door::STACK)
+        .spawn(move || perform(&arguments))
+        .expect("a thread");
+    match worker.join() {
+        Ok(Ok(true)) => ExitCode::SUCCESS,
+        Ok(Ok(false)) => ExitCode::FAILURE,
+        Ok(Err(error)) => {
+            eprintln!("compare: {error}");
+            ExitCode::from(2)
+        }
+        Err(_) => {
+            eprintln!("compare: it failed by itself");
+            ExitCode::from(2)
+        }
+    }
+}
+
+/// Whether all went well.
+fn perform(arguments: &Arguments) -> std::io::Result<bool> {
+    match &arguments.mode {
+        Mode::Run => run::run(arguments),
+        Mode::SelfTest => Ok(self_test::self_test(arguments)),
+        Mode::Store(path) => store::store(arguments, path),
+        Mode::One => run::one(arguments),
+    }
+}

@@ -1,0 +1,259 @@
+//! The smallest input that still shows something.
+
+use std::ops::Range;
+
+use sides::door::{Entry, rust_answer};
+use sides::input::{Input, get};
+
+/// Bytes that are tried at most, and what a try costs beside its bytes.
+const WORK: usize = 200_000_000;
+const COST: usize = 4000;
+const CONTINUATION: u8 = 16;
+const LAYOUT: u8 = 8;
+
+struct Shrink<'a> {
+    best: Input,
+    /// The numbers of the best input that change where bytes are dropped.
+    counts: Vec<Count>,
+    shows: &'a mut dyn FnMut(&Input) -> bool,
+    /// What may still be tried.
+    work: usize,
+}
+
+/// A smaller input that still shows what `shows` looks for.
+pub fn shrink(input: &Input, shows: &mut dyn FnMut(&Input) -> bool) -> Input {
+    let mut shrink = Shrink {
+        best: input.clone(),
+        counts: counts(input),
+        shows,
+        work: WORK,
+    };
+    while shrink.round() && shrink.work > 0 {}
+    shrink.best
+}
+
+impl Shrink<'_> {
+    /// Whether something became smaller.
+    fn round(&mut self) -> bool {
+        let cut = self.cut();
+        let entries = self.drop_entries();
+        let dropped = self.drop_bytes();
+        let zeroed = self.zero_bytes();
+        let plain = self.plain_numbers();
+        cut || entries || dropped || zeroed || plain
+    }
+
+    /// Takes an input if it still shows it.
+    fn take(&mut self, input: Input) -> bool {
+        if self.work == 0 || input == self.best {
+            return false;
+        }
+        self.work = self.work.saturating_sub(input.file.len() + COST);
+        let shows = (self.shows)(&input);
+        if shows {
+            self.counts = counts(&input);
+            self.best = input;
+        }
+        shows
+    }
+
+    /// Cuts the file at its end.
+    fn cut(&mut self) -> bool {
+        let mut smaller = false;
+        let mut step = self.best.file.len() / 2;
+        while step > 0 {
+            let mut input = self.best.clone();
+            input.file.truncate(input.file.len().saturating_sub(step));
+            if self.take(input) {
+                smaller = true;
+            } else {
+                step /= 2;
+            }
+        }
+        smaller
+    }
+
+    /// Drops whole entries, the last first.
+    fn drop_entries(&mut self) -> bool {
+        let mut smaller = false;
+        let mut number = self.counts.len();
+        while number > 0 {
+            number -= 1;
+            let Some(Count::Entry(size, body)) = self.counts.get(number).cloned() else {
+                continue;
+            };
+            smaller |= self.drop_range(size.start - 1..body.end);
+        }
+        smaller
+    }
+
+    /// Drops bytes, long runs first.
+    fn drop_bytes(&mut self) -> bool {
+        let mut smaller = false;
+        let mut length = self.best.file.len().next_power_of_two() / 2;
+        while length > 0 {
+            let mut at = 0;
+            while at + length <= self.best.file.len() && self.work > 0 {
+                if self.drop_range(at..at + length) {
+                    smaller = true;
+                } else {
+                    at += length;
+                }
+            }
+            length /= 2;
+        }
+        smaller
+    }
+
+    /// Drops bytes with the sizes and addresses put right, or as they are.
+    fn drop_range(&mut self, gone: Range<usize>) -> bool {
+        if gone.end > self.best.file.len() || gone.is_empty() {
+            return false;
+        }
+        let mut repaired = self.best.clone();
+        for count in &self.counts {
+            count.lower(&mut repaired.file, &gone);
+        }
+        self.take(without(repaired, &gone)) || self.take(without(self.best.clone(), &gone))
+    }
+
+    fn zero_bytes(&mut self) -> bool {
+        let mut smaller = false;
+        for at in 0..self.best.file.len() {
+            if self.best.file[at] == 0 || self.work == 0 {
+                continue;
+            }
+            let mut input = self.best.clone();
+            input.file[at] = 0;
+            smaller |= self.take(input);
+        }
+        smaller
+    }
+
+    /// An end-of-file address at the end of the file, a header without times and with a chunk size
+    /// of one byte. (Other widths would change all fields.)
+    fn plain_numbers(&mut self) -> bool {
+        let mut input = self.best.clone();
+        input.end_of_file = input.file.len() as u64;
+        let end = self.take(input);
+        let flags = self.best.position as usize + 5;
+        let Some(byte) = self.best.file.get(flags).copied() else {
+            return end;
+        };
+        let times = byte & 32 != 0 && self.drop_with(flags, byte & !32, flags + 1..flags + 17);
+        let high = flags + 2..flags + 1 + (1 << (byte & 3));
+        let width = byte & 35 != 0 && self.drop_with(flags, byte & !3, high);
+        end || times || width
+    }
+
+    /// Drops bytes and sets the header's flags.
+    fn drop_with(&mut self, flags: usize, byte: u8, gone: Range<usize>) -> bool {
+        let before = self.best.clone();
+        self.best.file[flags] = byte;
+        let dropped = self.drop_range(gone);
+        if !dropped {
+            self.best = before;
+        }
+        dropped
+    }
+}
+
+/// An input without some bytes; a header behind them moves with the file, and so does its end.
+fn without(mut input: Input, gone: &Range<usize>) -> Input {
+    let length = gone.len() as u64;
+    if input.end_of_file == input.file.len() as u64 {
+        input.end_of_file -= length;
+    }
+    if input.position >= gone.end as u64 {
+        input.position -= length;
+    }
+    input.file.drain(gone.clone());
+    input
+}
+
+/// A number in the file that counts bytes of it: where the number stands, and what it counts.
+#[derive(Clone)]
+enum Count {
+    /// The size of a chunk or a block.
+    Size(Range<usize>, Range<usize>),
+    /// The size of an entry's body; the entry begins one byte before.
+    Entry(Range<usize>, Range<usize>),
+    Address(Range<usize>),
+}
+
+impl Count {
+    /// Lowers the number where it counts bytes that are dropped.
+    fn lower(&self, file: &mut [u8], gone: &Range<usize>) {
+        let field = match self {
+            Count::Size(field, counted) | Count::Entry(field, counted) => {
+                let inside = counted.start <= gone.start && gone.end <= counted.end;
+                inside.then_some(field)
+            }
+            Count::Address(field) => {
+                let behind = get(&file[field.clone()]) >= gone.end as u64;
+                behind.then_some(field)
+            }
+        };
+        if let Some(field) = field {
+            let value = get(&file[field.clone()]).wrapping_sub(gone.len() as u64);
+            let bytes = value.to_le_bytes();
+            file[field.clone()].copy_from_slice(&bytes[..field.len()]);
+        }
+    }
+}
+
+/// The numbers that count bytes, as far as the Rust reads.
+fn counts(input: &Input) -> Vec<Count> {
+    let Some(flags) = input.file.get((input.position as usize).saturating_add(5)) else {
+        return Vec::new();
+    };
+    let start = input.position as usize + if flags & 32 == 0 { 6 } else { 22 };
+    let prefix = if flags & 4 == 0 { 4 } else { 6 };
+    let mut counts = Vec::new();
+    counts.extend(size_at(input, start, 1 << (flags & 3)));
+    for entry in rust_answer(input).entries {
+        let size = entry.body - prefix + 1;
+        let length = get(&input.file[size..size + 2]) as usize;
+        counts.push(Count::Entry(
+            size..size + 2,
+            entry.body..entry.body + length,
+        ));
+        counts.extend(pointers(input, entry));
+    }
+    counts
+}
+
+/// A size that counts the bytes behind it.
+fn size_at(input: &Input, at: usize, width: usize) -> Option<Count> {
+    let size = get(input.file.get(at..at + width)?) as usize;
+    let first = at + width;
+    Some(Count::Size(at..first, first..first.saturating_add(size)))
+}
+
+/// What a continuation or a layout points with.
+fn pointers(input: &Input, entry: Entry) -> Vec<Count> {
+    let (offsets, lengths) = (input.offset_width.into(), usize::from(input.length_width));
+    let field = |at: usize, width: usize| at..at + width;
+    let read = |range: Range<usize>| input.file.get(range).map(get);
+    match entry.kind {
+        CONTINUATION => {
+            let (address, length) = (
+                field(entry.body, offsets),
+                field(entry.body + offsets, lengths),
+            );
+            let (Some(from), Some(count)) = (read(address.clone()), read(length.clone())) else {
+                return Vec::new();
+            };
+            let block = from as usize..from.saturating_add(count) as usize;
+            vec![Count::Address(address), Count::Size(length, block)]
+        }
+        LAYOUT if read(field(entry.body, 2)) == Some(0x0103) => {
+            let address = field(entry.body + 2, offsets);
+            read(address.clone())
+                .map(|_| Count::Address(address))
+                .into_iter()
+                .collect()
+        }
+        _ => Vec::new(),
+    }
+}

@@ -1,0 +1,93 @@
+//! Damaged copies of good inputs.
+
+use crate::input::Input;
+use crate::random::Random;
+
+/// What is done to one byte.
+const CHANGES: usize = 5;
+
+fn changed(byte: u8, change: usize) -> u8 {
+    match change {
+        0 => byte ^ 1,
+        1 => byte ^ 0x80,
+        2 => 0,
+        3 => 0xff,
+        _ => byte.wrapping_add(1),
+    }
+}
+
+/// Shows every copy of an input with one byte changed in one of the ways, and every copy that is
+/// cut short, from a random one on. Bytes within the range are changed; answers how many copies
+/// were shown.
+pub fn every_byte(
+    input: &Input,
+    range: std::ops::Range<usize>,
+    most: usize,
+    random: &mut Random,
+    show: &mut dyn FnMut(&Input),
+) -> usize {
+    let steps = range.len() * (CHANGES + 1);
+    if steps == 0 {
+        return 0;
+    }
+    let first = random.below(steps as u64) as usize;
+    let mut copy = input.clone();
+    let count = steps.min(most);
+    for step in (first..first + count).map(|step| step % steps) {
+        let at = range.start + step / (CHANGES + 1);
+        match step % (CHANGES + 1) {
+            CHANGES => {
+                copy.file.truncate(at);
+                show(&copy);
+                copy.file.extend(&input.file[at..]);
+            }
+            change => {
+                copy.file[at] = changed(copy.file[at], change);
+                show(&copy);
+                copy.file[at] = input.file[at];
+            }
+        }
+    }
+    count
+}
+
+/// The start of one input and the end of another.
+pub fn spliced(first: &Input, second: &Input, random: &mut Random) -> Input {
+    let cut = random.below(first.file.len() as u64 + 1) as usize;
+    let from = random.below(second.file.len() as u64 + 1) as usize;
+    let mut file = first.file[..cut].to_vec();
+    file.extend(&second.file[from..]);
+    Input {
+        end_of_file: file.len() as u64,
+        file,
+        ..first.clone()
+    }
+}
+
+/// A short file of random bytes behind the first bytes of a header.
+pub fn short(random: &mut Random) -> Input {
+    let length = random.within(4, 60) as usize;
+    let mut file = b"OHDR\x02".to_vec();
+    file.push(random.pick(&[0, 0, 4, 1, 32, 36]));
+    file.resize_with(length.max(6), || few_values(random));
+    if let Some(size) = file.get_mut(6) {
+        *size = random.below(48) as u8;
+    }
+    let end_of_file = file.len() as u64;
+    Input {
+        offset_width: random.within(2, 8) as u8,
+        length_width: random.within(2, 8) as u8,
+        end_of_file,
+        position: 0,
+        file,
+    }
+}
+
+/// Small numbers, which are types, versions and sizes, more often than others.
+fn few_values(random: &mut Random) -> u8 {
+    match random.below(10) {
+        0..5 => 0,
+        5..9 => random.below(25) as u8,
+        _ => random.byte(),
+    }
+}

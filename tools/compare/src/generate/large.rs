@@ -1,0 +1,103 @@
+//! Inputs at the limits that only large files reach.
+
+use crate::input::{Input, put};
+
+const LARGEST_CHUNK: usize = 16_777_216;
+/// The bytes of numbers that an attribute passes at most.
+const LARGEST_PASSED: u64 = 1_048_576;
+const CHUNK_OF_4_BYTES: u8 = 2;
+
+/// A few large inputs, the same every time.
+pub fn inputs() -> Vec<Input> {
+    let mut inputs = Vec::new();
+    for size in [LARGEST_CHUNK - 1, LARGEST_CHUNK, LARGEST_CHUNK + 1] {
+        inputs.push(full_chunk(size));
+    }
+    // The products of size and elements are at the limit, below and above it.
+    for (size, elements) in [(25, 41_943), (32, 32_768), (17, 61_681)] {
+        for given in [LARGEST_PASSED - 2, LARGEST_PASSED + 64] {
+            inputs.push(numbers(size, elements, given as usize));
+        }
+    }
+    inputs.push(one_message(0, &[7; 65_535]));
+    inputs.push(one_message(4, &sized(65_531, 4)));
+    inputs.push(one_message(4, &sized(900_000, 4)));
+    inputs.push(one_message(8, &[&[3, 0], &sized(65_535, 2)[..]].concat()));
+    for name in [65_527, 65_528, 65_529] {
+        inputs.push(one_message(11, &named_filter(name)));
+    }
+    inputs
+}
+
+fn header(chunk_size: usize) -> Vec<u8> {
+    let mut file = b"OHDR\x02".to_vec();
+    file.push(CHUNK_OF_4_BYTES);
+    put(&mut file, chunk_size as u64, 4);
+    file
+}
+
+fn with_file(file: Vec<u8>) -> Input {
+    Input {
+        offset_width: 8,
+        length_width: 8,
+        end_of_file: file.len() as u64,
+        position: 0,
+        file,
+    }
+}
+
+fn entry(file: &mut Vec<u8>, kind: u8, size: usize) {
+    file.push(kind);
+    put(file, size as u64, 2);
+    file.push(0);
+}
+
+/// A chunk full of messages that are as large as they can be.
+fn full_chunk(size: usize) -> Input {
+    let mut file = header(size);
+    let end = file.len() + size;
+    while file.len() + 4 <= end {
+        let body = (end - file.len() - 4).min(65_535);
+        entry(&mut file, 0, body);
+        file.resize(file.len() + body, 1);
+    }
+    file.resize(end + 4, 0);
+    with_file(file)
+}
+
+/// One message whose body may be longer than its size, and a file that goes on behind it.
+fn one_message(kind: u8, body: &[u8]) -> Input {
+    let mut file = header(4);
+    entry(&mut file, kind, if kind == 0 { body.len() } else { 0 });
+    file.extend(body);
+    file.resize(file.len() + 4, 0);
+    with_file(file)
+}
+
+fn sized(count: usize, width: u8) -> Vec<u8> {
+    let mut bytes = Vec::new();
+    put(&mut bytes, count as u64, width);
+    bytes.resize(bytes.len() + count, 9);
+    bytes
+}
+
+/// An attribute of numbers: of so many elements of a size, and bytes that are given.
+fn numbers(size: u64, elements: u64, given: usize) -> Input {
+    let mut body = vec![3, 0, 1, 0, 0, 0, 0, 0, 0, b'n'];
+    body.extend([0x10, 0, 0, 0]);
+    put(&mut body, size, 4);
+    body.extend([0; 4]);
+    body.extend([2, 1, 0, 0]);
+    put(&mut body, elements, 8);
+    body.resize(body.len() + given, 5);
+    one_message(12, &body)
+}
+
+/// A filter of version 1 with a long name, and a second one behind it.
+fn named_filter(name: u64) -> Vec<u8> {
+    let mut body = vec![1, 2, 0, 0, 0, 0, 0, 0];
+    put(&mut body, 1, 2);
+    put(&mut body, name, 2);
+    body.resize(body.len() + 4 + 65_528 + 16, 0);
+    body
+}

@@ -1,0 +1,56 @@
+//! Inputs from a seed, in batches: the same seed and number give the same batch.
+
+mod attribute;
+mod damage;
+mod header;
+pub mod large;
+mod maker;
+mod messages;
+mod piece;
+mod types;
+
+use crate::input::Input;
+use crate::random::Random;
+use maker::Maker;
+
+/// The inputs of a batch.
+pub const BATCH: usize = 1000;
+/// How far behind its position the bytes of a real header are damaged.
+const REAL_SPAN: usize = 600;
+
+/// Shows the inputs of a batch. `real` are the headers of real files, if any.
+pub fn batch(seed: u64, number: u64, real: &[Input], show: &mut dyn FnMut(&Input)) {
+    let mut random = Random::new(seed, number);
+    match number % 20 {
+        8..15 => damaged(&mut random, show),
+        15 => (0..BATCH).for_each(|_| show(&spliced(&mut random))),
+        16 => (0..BATCH).for_each(|_| show(&damage::short(&mut random))),
+        17.. if !real.is_empty() => damaged_real(&mut random, real, show),
+        _ => (0..BATCH).for_each(|_| show(&Maker::new(&mut random).input())),
+    }
+}
+
+fn damaged(random: &mut Random, show: &mut dyn FnMut(&Input)) {
+    let mut left = BATCH;
+    while left > 0 {
+        let input = Maker::good(random).input();
+        let range = 0..input.file.len();
+        left -= damage::every_byte(&input, range, left, random, show);
+    }
+}
+
+fn damaged_real(random: &mut Random, real: &[Input], show: &mut dyn FnMut(&Input)) {
+    let mut left = BATCH;
+    while left > 0 {
+        let input = &real[random.below(real.len() as u64) as usize];
+        let start = input.position as usize;
+        let end = input.file.len().min(start + REAL_SPAN);
+        left -= damage::every_byte(input, start..end, left.min(200), random, show);
+    }
+}
+
+fn spliced(random: &mut Random) -> Input {
+    let first = Maker::good(random).input();
+    let second = Maker::good(random).input();
+    damage::spliced(&first, &second, random)
+}

@@ -1,0 +1,65 @@
+//! What both sides are given: widths, end-of-file address, header position and file.
+
+/// Two widths, end-of-file address, header position.
+pub const LEAD: usize = 18;
+
+#[derive(Clone, Debug, PartialEq, Eq, Hash)]
+pub struct Input {
+    pub offset_width: u8,
+    pub length_width: u8,
+    pub end_of_file: u64,
+    pub position: u64,
+    pub file: Vec<u8>,
+}
+
+impl Input {
+    /// The lead bytes, then the file.
+    pub fn to_bytes(&self) -> Vec<u8> {
+        let mut bytes = Vec::with_capacity(LEAD + self.file.len());
+        bytes.push(self.offset_width);
+        bytes.push(self.length_width);
+        bytes.extend(self.end_of_file.to_le_bytes());
+        bytes.extend(self.position.to_le_bytes());
+        bytes.extend(&self.file);
+        bytes
+    }
+
+    pub fn from_bytes(bytes: &[u8]) -> Option<Input> {
+        let (lead, file) = bytes.split_at_checked(LEAD)?;
+        Some(Input {
+            offset_width: lead[0],
+            length_width: lead[1],
+            end_of_file: u64::from_le_bytes(lead[2..10].try_into().ok()?),
+            position: u64::from_le_bytes(lead[10..18].try_into().ok()?),
+            file: file.to_vec(),
+        })
+    }
+
+    /// The lead bytes and the file as hexadecimal digits, the way the listing takes them.
+    pub fn hex(&self) -> String {
+        let digits = |bytes: &[u8]| bytes.iter().map(|b| format!("{b:02x}")).collect::<String>();
+        let bytes = self.to_bytes();
+        let (lead, file) = bytes.split_at(LEAD);
+        format!(
+            "{} {} {}, file {}",
+            digits(&lead[..2]),
+            digits(&lead[2..10]),
+            digits(&lead[10..]),
+            digits(file)
+        )
+    }
+}
+
+/// A number of `width` bytes, the lowest first; higher bytes are dropped.
+pub fn put(bytes: &mut Vec<u8>, value: u64, width: u8) {
+    let all = value.to_le_bytes();
+    bytes.extend(&all[..usize::from(width)]);
+}
+
+/// The number that some bytes write, at most eight of them, the lowest first.
+pub fn get(bytes: &[u8]) -> u64 {
+    bytes
+        .iter()
+        .rev()
+        .fold(0, |number, byte| number << 8 | u64::from(*byte))
+}

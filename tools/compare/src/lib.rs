@@ -1,0 +1,15 @@
+//! The port and the Rust that it was ported from, side by side: inputs, the answers of both in one
+//! form, and the report that is compared.
+
+pub mod answer;
+pub mod door;
+pub mod generate;
+mod hdf;
+pub mod input;
+pub mod port;
+pub mod random;
+pub mod real;
+pub mod scan;
+
+/// The crates, the sources and the archive that this program was built of.
+pub const VERSIONS: &str = include_str!("versions.txt");
