@@ -98,7 +98,7 @@ pub fn count(tally: Summary, passed: bool, name: &[u8]) -> Summary
     }
 }
 
-// The last line of a run.
+// Writes the last line of a run. It yields nothing, and no contract speaks of what is written.
 pub fn tell_end(run: u64, failed: u64, whole: bool) {
     io::print_decimal(1, run);
     io::write_all(1, b" run, ");
@@ -110,7 +110,7 @@ pub fn tell_end(run: u64, failed: u64, whole: bool) {
     io::write_all(1, b"\n");
 }
 
-// The bytes of the file `cases`, as many as there is room for.
+// The bytes of the file at a path, as many as there is room for, and none where it cannot be opened.
 pub fn load(path: &[u8], buf: &mut [u8]) -> usize
     ensures { λ r. ⌜ Counts r (now (buf .exit)) ⌝ }
 {
