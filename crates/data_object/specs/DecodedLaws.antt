@@ -25,16 +25,16 @@ use Rattle.parser.specs.StateLaws.{made-widths}
 use Rattle.grammar.specs.Message.{Message}
 use Rattle.grammar.specs.Grammar.{Item}
 use Rattle.grammar.specs.Table.{encode, messagesOf, messages}
-use Rattle.grammar.specs.Walk.{Walked, choose}
+use Rattle.grammar.specs.Walk.{Walked}
 use Rattle.grammar.specs.TableLaws.{length-encode}
 use Rattle.grammar.specs.WalkLaws.{choose-yes, choose-no, andThen-found, andThen-refused, state≡}
 use Rattle.ohdr_info.specs.Info.{linkInfo, groupInfo, attributeInfo}
 use Rattle.ohdr_storage.specs.Storage.{dataLayout, emptyPart}
 use Rattle.ohdr_datatype.specs.DataTypes.{dataType, typeLevels}
 use Rattle.ohdr_dataspace.specs.DataSpaces.{dataSpace}
-use Rattle.ohdr_entry.specs.declared.Progress.{Progress}
-use Rattle.ohdr_entry.specs.Code.{walkedOf, walkOf}
-use Rattle.ohdr_entry.specs.Loop.{met}
+use Rattle.ohdr_walk.specs.declared.Progress.{Progress}
+use Rattle.ohdr_walk.specs.Code.{walkedOf, walkOf}
+use Rattle.ohdr_walk.specs.Loop.{met}
 use Rattle.data_object_records.specs.Headers.{Wins, defaults, winsOf, stateFor, ohdr, headerFields, header, decode}
 use Rattle.data_object_records.specs.HeaderLaws.{Within, tableOf, header-walks, header-sound, header-complete}
 use Rattle.data_object_records.specs.Contents.{header-refused}
@@ -45,7 +45,7 @@ use Rattle.data_object_records.specs.declared.FieldsRead.{FieldsRead}
 use Rattle.data_object_records.specs.declared.FieldsRead.the-variants as fields
 use Rattle.data_object_records.specs.Winners.{lastIn, winner}
 use Rattle.data_object_records.specs.WinnerLaws.{all-bodied, Won, won, space-won, type-won, link-won, group-won, info-won, data-won}
-use Rattle.data_object.specs.Decoded.{answerOut, counted, rowsIn, winsIn, Readable, Accepted, Rejected, Meant, Decoded}
+use Rattle.data_object.specs.Decoded.{answerOut, counted, rowsIn, winsIn, Readable, Accepted, Meant, Decoded}
 use Rattle.data_object.specs.declared.Answer.{Answer}
 use Rattle.data_object.specs.declared.Answer.the-variants as answers
 use Rattle.data_object.specs.declared.DataObject.{DataObject}

@@ -1,5 +1,5 @@
 -- What a walk answers does not depend on what stood in the table, but on its length alone. Assumes nothing.
-use Prim.Native.Nat.{ℕ, zero, suc, _+_, _-_, _/_, _≤_, max}
+use Prim.Native.Nat.{ℕ, zero, suc, _+_, _-_, _/_, max}
 use mathlib.Core.Path.{_≡_, refl, sym, ap, ap₂, _∙_}
 use mathlib.Core.Bool.{Bool, true, false}
 use mathlib.Core.List.{List}
@@ -11,10 +11,9 @@ use Rattle.parser.specs.declared.State.{State}
 use Rattle.grammar.specs.Message.{Message, Held, message, continuation}
 use Rattle.grammar.specs.Grammar.{ochk, blockLevels}
 use Rattle.grammar.specs.TableLaws.{length-put}
-use Rattle.grammar.specs.Walk.{Walked, choose, andThen, begun, filled, keep, hold, entryBy, runBy, blockBy, entryAt, runAt, walk}
-use Rattle.ohdr_message.specs.Entries.{prefixSize, entry}
+use Rattle.grammar.specs.Walk.{Walked, choose, andThen, begun, keep, hold, entryBy, runBy, blockBy, entryAt, runAt, walk}
+use Rattle.ohdr_entry.specs.Entries.{prefixSize, entry}
 use Rattle.data_object_records.specs.Headers.{headerFields, header}
-use Rattle.data_object_records.specs.declared.HeaderFields.{HeaderFields}
 
 -- as many entries and rows, and tables of one length
 pub record Alike (s s′ : Walked) : Type 0 where

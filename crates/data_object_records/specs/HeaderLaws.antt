@@ -1,27 +1,23 @@
 -- Decoding accepts exactly the headers that have a reading within the limits, and gives that reading; no header has two. Assumes nothing.
 use Prim.Native.Nat.{ℕ, _+_, _-_, _*_, _/_, _≤_}
 use mathlib.Core.Path.{_≡_, refl, sym, ap, _∙_, subst, subst₂}
-use mathlib.Core.Bool.{Bool, true, false, _&&_}
-use mathlib.Core.List.{List, [], _∷_, _++_}
+use mathlib.Core.List.{List, _++_}
 use native.Mathlib.Omega.{arith}
 use lib.ListN.{length, drop, replicate, length-replicate}
-use lib.Dec.{leb}
-use borrow.Author.Tests.{le-leb, lt-leb}
-use Rattle.format.specs.Format.{Stands, Out, found, refused, read}
+use Rattle.format.specs.Format.{Stands, found, read}
 use Rattle.format.specs.Laws as formats
 use Rattle.parser.specs.declared.State.{State}
-use Rattle.parser.specs.States.{widthAllowed}
-use Rattle.grammar.specs.Message.{Message, Held}
+use Rattle.grammar.specs.Message.{Held}
 use Rattle.grammar.specs.Grammar.{Item, Reading}
 use Rattle.grammar.specs.Table.{encode, messagesOf, messages}
 use Rattle.grammar.specs.TableLaws.{drop-replicate}
-use Rattle.grammar.specs.Walk.{Walked, choose, andThen, walk}
-use Rattle.grammar.specs.WalkLaws.{First, first, andThen-found, andThen-refused, choose-yes, choose-no}
-use Rattle.grammar.specs.Theorems.{Read, sound, complete}
+use Rattle.grammar.specs.Walk.{Walked}
+use Rattle.grammar.specs.WalkLaws.{first, andThen-found}
+use Rattle.grammar.specs.Theorems.{sound, complete}
 use Rattle.grammar.specs.Unique.{unique}
 use Rattle.data_object_records.specs.declared.HeaderFields.{HeaderFields}
-use Rattle.ohdr_message.specs.Entries.{prefixSize, entry}
-use Rattle.data_object_records.specs.Headers.{headerFields, StandsEntry, HeaderReading, header, decode, stateFor}
+use Rattle.ohdr_entry.specs.Entries.{prefixSize, entry}
+use Rattle.data_object_records.specs.Headers.{headerFields, StandsEntry, HeaderReading, header}
 
 -- a reading within the limits: at most 4,096 entries, and no more messages than the rows of a table of n words
 pub record Within (file : List ℕ) (s : State) (at n next : ℕ) (xs : List Item) : Type 0 where

@@ -1,12 +1,12 @@
 -- IV.A.1.b, a version 2 object header: its fields, its reading, the records that win in it, and what decoding it gives.
 -- Assumes nothing: these are definitions.
-use Prim.Native.Nat.{ℕ, _+_, _%_, _^_, _≤_}
-use mathlib.Core.Bool.{Bool, not, _&&_}
+use Prim.Native.Nat.{ℕ, _+_, _%_, _^_}
+use mathlib.Core.Bool.{not, _&&_}
 use mathlib.Core.List.{List, [], _∷_}
 use lib.ListN.{length}
 use lib.Dec.{eqb, leb}
 use Rattle.format.specs.Bits.{bit}
-use Rattle.format.specs.Format.{Format, done, number, skip, bind, check, pick, Stands, Out, found, refused, read}
+use Rattle.format.specs.Format.{Format, done, number, skip, bind, check, pick, Stands, Out, refused, read}
 use Rattle.records.specs.Defaults.{defaultDataSpace, defaultLinkInfo, defaultGroupInfo, defaultAttributeInfo, defaultDataType}
 use Rattle.records.specs.declared.Part.{Part}
 use Rattle.records.specs.declared.DataSpace.{DataSpace}
@@ -21,7 +21,7 @@ use Rattle.grammar.specs.Message.{Kept, Message}
 use Rattle.grammar.specs.Message as messages
 use Rattle.grammar.specs.Grammar.{signature, Item, Reading}
 use Rattle.grammar.specs.Walk.{Walked, choose, andThen, walk}
-use Rattle.ohdr_message.specs.Entries.{prefixSize, entry}
+use Rattle.ohdr_entry.specs.Entries.{prefixSize, entry}
 use Rattle.data_object_records.specs.declared.HeaderFields.{HeaderFields}
 
 -- `OHDR`, the bytes 4F 48 44 52

@@ -1,6 +1,6 @@
 -- One pass over the rows finds where the last message of each type has its body. Assumes nothing.
 use Prim.Native.Nat.{ℕ, zero, suc, _+_, _*_, _/_, _≤_, _<_}
-use mathlib.Core.Path.{_≡_, refl, sym, ap, _∙_}
+use mathlib.Core.Path.{_≡_, refl, sym}
 use mathlib.Core.Bool.{Bool, true, false}
 use mathlib.Core.List.{List}
 use native.Mathlib.Omega.{arith}
@@ -10,7 +10,6 @@ use lib.Seq.{getD-set-same, getD-set-other}
 use borrow.Author.Tests.{eqb-true, eqb-false, eq-eqb, ne-eqb, ltb-false}
 use Rattle.format.specs.Format.{pick}
 use Rattle.data_object_records.specs.Winners.{lastIn, lastRows, bodyOf}
-use Rattle.data_object_records.specs.declared.LastBody.{LastBody}
 use Rattle.data_object_records.specs.declared.LastBody.the-variants as bodies
 
 module _ (t : List ℕ) where

@@ -1,5 +1,5 @@
 -- The records that are read at the bodies of the last messages are those that win. Assumes nothing.
-use Prim.Native.Nat.{ℕ, zero, suc, _+_, _-_, _*_, _≤_, _<_}
+use Prim.Native.Nat.{ℕ, suc, _+_, _-_, _*_}
 use mathlib.Core.Path.{_≡_, refl, sym, ap, _∙_}
 use mathlib.Core.Bool.{Bool, true, false}
 use mathlib.Core.Logic.{_⊎_, inl, inr}
@@ -8,8 +8,8 @@ use native.Mathlib.Omega.{arith}
 use lib.ListN.{length, getD, length-append}
 use lib.Seq.{getD-append-add}
 use lib.Dec.{eqb}
-use borrow.Author.Tests.{eqb-true, eqb-false, eq-eqb, ne-eqb}
-use Rattle.format.specs.Format.{Format, done, bind, pick, Stands, Out, found, refused, read}
+use borrow.Author.Tests.{eqb-true, eqb-false}
+use Rattle.format.specs.Format.{Format, done, bind, pick, Stands, found, read}
 use Rattle.format.specs.Laws.{complete}
 use Rattle.format.specs.Standing.{stands-bind}
 use Rattle.records.specs.Defaults.{defaultDataSpace, defaultLinkInfo, defaultGroupInfo, defaultAttributeInfo, defaultDataType}
@@ -19,14 +19,14 @@ use Rattle.grammar.specs.Message as messages
 use Rattle.grammar.specs.Table.{encode, messagesOf}
 use Rattle.grammar.specs.Each.{All, reading-each}
 use Rattle.grammar.specs.Grammar.{Item}
-use Rattle.grammar.specs.TableLaws.{length-words, length-encode}
+use Rattle.grammar.specs.TableLaws.{length-encode}
 use Rattle.ohdr_info.specs.Info.{linkInfo, groupInfo, attributeInfo}
 use Rattle.ohdr_storage.specs.Storage.{dataLayout, fillOld, fill, filterPipeline, emptyPart}
 use Rattle.ohdr_datatype.specs.DataTypes.{dataType, typeLevels}
 use Rattle.ohdr_dataspace.specs.DataSpaces.{dataSpace}
 use Rattle.ohdr_attribute.specs.Attributes.{attribute}
-use Rattle.ohdr_message.specs.Entries.{body, plainBody, layoutBody, attributeBody}
-use Rattle.ohdr_message.specs.Entered.{Bodied, bodied}
+use Rattle.ohdr_entry.specs.Entries.{body, plainBody, layoutBody, attributeBody}
+use Rattle.ohdr_entry.specs.Entered.{Bodied, bodied}
 use Rattle.data_object_records.specs.Headers.{Wins, win, winsAfter, winsOf, defaults, HeaderReading}
 use Rattle.data_object_records.specs.Winners.{lastIn, valueOr, winner}
 use Rattle.data_object_records.specs.declared.LastBody.{LastBody}

@@ -1,6 +1,6 @@
 -- Where the last message of a type has its body, and the record that is read there. Assumes nothing: these are definitions.
 use Prim.Native.Nat.{ℕ, zero, suc, _+_, _*_}
-use mathlib.Core.List.{List, [], _∷_}
+use mathlib.Core.List.{List}
 use lib.ListN.{getD, set}
 use lib.Dec.{eqb, ltb}
 use Rattle.format.specs.Format.{Format, pick, Out, found, refused, read}

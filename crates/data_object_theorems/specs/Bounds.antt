@@ -1,17 +1,17 @@
 -- Each dataspace in a reading, an attribute's included, has at most four sizes, each at most 1,000,000. Assumes nothing.
 use Prim.Native.Nat.{ℕ, _+_, _-_}
-use mathlib.Core.Path.{_≡_, refl, sym, ap, _∙_}
+use mathlib.Core.Path.{_≡_, sym}
 use mathlib.Core.Logic.{_⊎_, inl, inr}
 use mathlib.Core.List.{List}
 use native.Mathlib.Omega.{arith}
-use Rattle.format.specs.Format.{Format, done, bind, Stands}
+use Rattle.format.specs.Format.{done, Stands}
 use Rattle.format.specs.Standing.{stands-bind}
 use Rattle.records.specs.declared.DataSpace.{DataSpace}
 use Rattle.records.specs.declared.DataType.{DataType}
 use Rattle.records.specs.declared.OptionPart.{OptionPart}
 use Rattle.records.specs.declared.Attribute.{Attribute}
 use Rattle.parser.specs.declared.State.{State}
-use Rattle.grammar.specs.Message.{Kept, Message}
+use Rattle.grammar.specs.Message.{Kept}
 use Rattle.grammar.specs.Message as messages
 use Rattle.grammar.specs.Grammar.{Item}
 use Rattle.grammar.specs.Table.{messagesOf}
@@ -22,10 +22,10 @@ use Rattle.ohdr_attribute.specs.declared.AttributeFields.{AttributeFields}
 use Rattle.ohdr_attribute.specs.Attributes.{attributeFields, namePadding, padding, attribute, spaceValue, typeSpaceValue}
 use Rattle.ohdr_attribute.specs.Without.{With, Without, with-or-without}
 use Rattle.ohdr_datatype.specs.DataTypes.{dataType, typeLevels}
-use Rattle.ohdr_message.specs.Entries.{body, plainBody, attributeBody}
-use Rattle.ohdr_message.specs.Entered.{Bodied, bodied}
+use Rattle.ohdr_entry.specs.Entries.{body, plainBody, attributeBody}
+use Rattle.ohdr_entry.specs.Entered.{bodied}
 use Rattle.data_object_records.specs.Headers.{HeaderReading}
-use Rattle.data_object_records.specs.WinnerLaws.{typeOf, typed}
+use Rattle.data_object_records.specs.WinnerLaws.{typed}
 
 module _ (file : List ℕ) (s : State) where
   -- an attribute's type stands at p, and after its padding a bounded dataspace

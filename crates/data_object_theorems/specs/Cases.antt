@@ -11,7 +11,7 @@ use Rattle.ohdr_dataspace.specs.DataSpaces.{dataSpace, dataSpaceHeader, kind, d
 use Rattle.grammar.specs.Grammar.{ochk}
 use Rattle.grammar.specs.Table.{put}
 use Rattle.grammar.specs.Walk.{keep, hold, entryBy, runBy, blockBy, entryAt, runAt, walk}
-use Rattle.ohdr_message.specs.Entries.{entry, prefix, creationOrder, closed, messageHeld, continuationHeld, body, plainBody}
+use Rattle.ohdr_entry.specs.Entries.{entry, prefix, creationOrder, closed, messageHeld, continuationHeld, body, plainBody}
 use Rattle.data_object_records.specs.Headers.{ohdr, headerFields, header, decode}
 use Rattle.data_object.specs.Decoded.{counted}
 

@@ -1,5 +1,5 @@
 -- A lookup in the table of a decoded header finds the first attribute of its reading that bears the name. Assumes nothing.
-use Prim.Native.Nat.{ℕ, zero, suc, _+_, _-_, _*_, _/_, _≤_, _<_}
+use Prim.Native.Nat.{ℕ, zero, suc, _+_, _-_, _*_, _≤_, _<_}
 use mathlib.Core.Path.{_≡_, refl, sym, ap, _∙_}
 use mathlib.Core.List.{List, [], _∷_, _++_, append-assoc}
 use native.Mathlib.Omega.{arith}
@@ -8,12 +8,11 @@ use lib.Seq.{getD-append-add}
 use Rattle.records.specs.declared.Attribute.{Attribute}
 use Rattle.grammar.specs.Message.{Kept, Message, words, nameOf}
 use Rattle.grammar.specs.Message as messages
-use Rattle.grammar.specs.Grammar.{Item}
 use Rattle.grammar.specs.Table.{encode, messagesOf}
 use Rattle.grammar.specs.TableLaws.{length-words}
 use Rattle.data_object_records.specs.Headers.{Wins}
 use Rattle.data_object.specs.Decoded.{Accepted}
-use Rattle.lookup.specs.Named.{word, Named, NoneBelow, Looked}
+use Rattle.lookup.specs.Named.{word, Named, Looked}
 use Rattle.lookup.specs.declared.LookupAnswer.the-variants as answers
 
 -- message i of a list

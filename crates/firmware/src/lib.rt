@@ -3,7 +3,7 @@
 use data_object::Answer;
 use data_object::DataObject;
 use data_object::data_object;
-use lister::list;
+use listing::list;
 use lookup::LookupAnswer;
 use lookup::lookup;
 use records::AttributeInfo;
@@ -21,7 +21,7 @@ use records::OptionU64;
 use records::Part;
 ghost use mathlib.Core.Path.{_≡_};
 ghost use lib.ListN.{length, take};
-ghost use Rattle.lister.specs.Listing.{listingOf, Counts};
+ghost use Rattle.listing.specs.Listing.{listingOf, Counts};
 ghost use Rattle.firmware.specs.Words.{optionalOf, optional8, optional16, optional32, optional64, dimensionsOf, dataSpaceOf, noFormat, formatOf, optionalFormat, dataTypeOf, linkInfoOf, groupInfoOf, attributeInfoOf, partOf, answerOf, wordsOf, foundRow, lookupOf};
 ghost use Rattle.firmware.specs.Handed.{Handed, HandedRow, HandedPart};
 

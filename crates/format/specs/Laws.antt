@@ -1,14 +1,14 @@
 -- Reading a format finds exactly what stands; no format stands in two ways. Assumes nothing.
-use Prim.Native.Nat.{ℕ, _+_, _≤_, _<_}
-use mathlib.Core.Path.{_≡_, refl, ap, sym, _∙_}
-use mathlib.Core.Logic.{_⊎_, inl, inr, _↔_}
+use Prim.Native.Nat.{ℕ, _+_, _≤_}
+use mathlib.Core.Path.{_≡_, refl, sym, _∙_}
+use mathlib.Core.Logic.{inl, inr, _↔_}
 use mathlib.Core.Bool.{Bool, true, false}
 use mathlib.Core.List.{List}
 use native.Mathlib.Omega.{arith}
-use lib.ListN.{length, getD}
+use lib.ListN.{length}
 use lib.Dec.{leb}
 use borrow.Author.Tests.{leb-true, le-leb}
-use Rattle.format.specs.Bytes.{le, Named, Trimmed, nameLength, textLength}
+use Rattle.format.specs.Bytes.{le, Named, nameLength, textLength}
 use Rattle.format.specs.BytesLaws.{named-found, named-only, trimmed-found, trimmed-only}
 use Rattle.format.specs.Format.{Format, done, refuse, number, skip, bytes, name, text, here, there, attempt, Stands, Out, found, refused, nameEnds, read}
 

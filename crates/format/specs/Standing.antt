@@ -1,10 +1,10 @@
 -- What stands in formats that are put together, and what reading says of an end. Assumes nothing.
-use Prim.Native.Nat.{ℕ, _+_, _≤_}
+use Prim.Native.Nat.{ℕ, _≤_}
 use mathlib.Core.Path.{_≡_, refl, sym, _∙_}
 use mathlib.Core.Bool.{Bool, true, false}
 use mathlib.Core.List.{List}
 use lib.ListN.{length}
-use Rattle.format.specs.Format.{Format, Stands, Out, found, refused, read, bind, check, pick}
+use Rattle.format.specs.Format.{Format, Stands, Out, found, refused, read, bind, check}
 use Rattle.format.specs.Laws.{never, sound, complete}
 use Rattle.format.specs.Covers as covers
 use Rattle.format.specs.Steps.{after, read-bind}

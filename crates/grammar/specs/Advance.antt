@@ -1,9 +1,8 @@
 -- The definition's run and its levels, as a loop and a cycle of calls go through them. Assumes nothing.
-use Prim.Native.Nat.{ℕ, zero, suc, _+_, _-_, _*_, _/_, _≤_, _<_, max}
-use mathlib.Core.Path.{_≡_, refl, sym, ap, _∙_, subst}
+use Prim.Native.Nat.{ℕ, zero, suc, _+_, _-_, _/_, _≤_, _<_, max}
+use mathlib.Core.Path.{_≡_, refl, sym, ap, _∙_}
 use mathlib.Core.Bool.{Bool, true, false}
-use mathlib.Core.Logic.{_⊎_, inl, inr, ⊎-elim}
-use mathlib.Core.List.{List, [], _∷_, _++_}
+use mathlib.Core.List.{List}
 use native.Mathlib.Omega.{arith}
 use lib.ListN.{length}
 use lib.Dec.{leb, ltb}
@@ -11,10 +10,10 @@ use borrow.Author.Tests.{ltb-true, le-leb, lt-leb, leb-true, leb-false}
 use Rattle.format.specs.Format.{Out, found, refused, read}
 use Rattle.grammar.specs.Message.{Message, Held, message, continuation}
 use Rattle.grammar.specs.Grammar.{ochk, Item, Entry, is-message, is-continuation}
-use Rattle.grammar.specs.Walk.{Walked, choose, andThen, begun, filled, entryBy, runBy, blockBy, entryAt, runAt, walk}
-use Rattle.grammar.specs.WalkLaws.{never, passed, First, first, chose, choose-yes, choose-no, andThen-found, andThen-refused, after, Grew}
+use Rattle.grammar.specs.Walk.{Walked, begun, filled, entryBy, runBy, blockBy, entryAt, runAt, walk}
+use Rattle.grammar.specs.WalkLaws.{passed, choose-yes, choose-no, andThen-found, andThen-refused}
 use Rattle.grammar.specs.Steps.{run-ends, run-goes, run-stops, entry-many, entry-refused, entry-kept, entry-full, entry-opened, entry-unopened, block-unsigned, block-stops, block-whole, block-skip, block-cut}
-use Rattle.grammar.specs.Sound.{Grown, EntrySound, entry-sound}
+use Rattle.grammar.specs.Sound.{entry-sound}
 use Rattle.grammar.specs.Complete.{entry-some}
 
 -- from s at p to s′ at q: entries were begun, not too many, and q is in the file

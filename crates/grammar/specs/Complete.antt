@@ -1,19 +1,18 @@
 -- What stands by the grammar, within the limits, the definition finds. Assumes nothing.
-use Prim.Native.Nat.{ℕ, zero, suc, _+_, _-_, _*_, _/_, _≤_, _<_, max}
-use mathlib.Core.Path.{_≡_, refl, sym, ap, _∙_, subst}
+use Prim.Native.Nat.{ℕ, zero, suc, _+_, _-_, _*_, _≤_, _<_}
+use mathlib.Core.Path.{_≡_, refl, sym, ap, _∙_}
 use mathlib.Core.Bool.{Bool, true, false}
-use mathlib.Core.Logic.{_⊎_, inl, inr, ⊎-elim}
 use mathlib.Core.List.{List, [], _∷_, _++_}
 use native.Mathlib.Omega.{arith}
 use lib.ListN.{length, length-append}
-use lib.Dec.{leb, ltb}
-use borrow.Author.Tests.{le-leb, lt-leb, lt-ltb, le-ltb, leb-true, leb-false}
-use Rattle.format.specs.Format.{Out, found, refused, read, Stands}
+use lib.Dec.{leb}
+use borrow.Author.Tests.{leb-true, leb-false}
+use Rattle.format.specs.Format.{Out, found, read, Stands}
 use Rattle.grammar.specs.Message.{Message, Held, message, continuation}
-use Rattle.grammar.specs.Grammar.{Item, ochk, Run, ends, goes, Entry, is-message, is-continuation, Block, is-block, Reading}
-use Rattle.grammar.specs.Table.{put, putAll, messagesOf, messages}
+use Rattle.grammar.specs.Grammar.{Item, ochk, Run, ends, goes, Entry, is-message, is-continuation, is-block}
+use Rattle.grammar.specs.Table.{messagesOf, messages}
 use Rattle.grammar.specs.TableLaws.{length-putAll, messages-append}
-use Rattle.grammar.specs.Walk.{Walked, choose, andThen, begun, keep, hold, entryBy, runBy, blockBy, entryAt, runAt, walk}
+use Rattle.grammar.specs.Walk.{Walked, begun, entryBy, runBy, blockBy, entryAt}
 use Rattle.grammar.specs.WalkLaws.{after, after-none, after-append, state≡}
 use Rattle.grammar.specs.Steps.{run-ends, run-goes, entry-kept, entry-opened, block-whole, block-skip}
 use Rattle.format.specs.Laws as formats

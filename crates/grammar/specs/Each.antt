@@ -1,9 +1,9 @@
 -- What holds of each message that stands as an entry holds of each message of a reading. Assumes nothing.
-use Prim.Native.Nat.{ℕ, suc, _+_, _-_, _≤_, _<_}
-use mathlib.Core.Path.{_≡_, sym, subst}
+use Prim.Native.Nat.{ℕ, _+_, _-_}
+use mathlib.Core.Path.{sym, subst}
 use mathlib.Core.List.{List, [], _∷_, _++_}
-use Rattle.grammar.specs.Message.{Message, Held, message, continuation}
-use Rattle.grammar.specs.Grammar.{Item, Run, ends, goes, Entry, is-message, is-continuation, Block, is-block, Reading}
+use Rattle.grammar.specs.Message.{Message, Held, message}
+use Rattle.grammar.specs.Grammar.{Item, Run, ends, goes, is-message, is-continuation, is-block, Reading}
 use Rattle.grammar.specs.Table.{messagesOf}
 use Rattle.grammar.specs.TableLaws.{messagesOf-append}
 

@@ -1,19 +1,17 @@
 -- What the definition finds stands by the grammar. Assumes nothing.
-use Prim.Native.Nat.{ℕ, zero, suc, _+_, _-_, _*_, _/_, _≤_, _<_, max}
-use mathlib.Core.Path.{_≡_, refl, sym, ap, _∙_, subst}
-use mathlib.Core.Bool.{Bool, true, false}
-use mathlib.Core.Logic.{_⊎_, inl, inr, ⊎-elim}
+use Prim.Native.Nat.{ℕ, zero, suc, _+_, _-_, _/_, _≤_, _<_}
+use mathlib.Core.Path.{_≡_, refl, sym, _∙_, subst}
+use mathlib.Core.Logic.{_⊎_, ⊎-elim}
 use mathlib.Core.List.{List, [], _∷_, _++_}
 use native.Mathlib.Omega.{arith}
-use lib.ListN.{length, getD}
+use lib.ListN.{length}
 use lib.Dec.{leb, ltb}
-use borrow.Author.Tests.{leb-true, leb-false, ltb-true, ltb-false}
+use borrow.Author.Tests.{leb-true, leb-false, ltb-true}
 use Rattle.format.specs.Format.{Out, found, refused, read, Stands}
 use Rattle.grammar.specs.Message.{Message, Held, message, continuation}
-use Rattle.grammar.specs.Grammar.{Item, ochk, Run, ends, goes, Entry, is-message, is-continuation, Block, is-block, Reading}
-use Rattle.grammar.specs.Table.{put, putAll, messagesOf, messages}
-use Rattle.grammar.specs.Walk.{Walked, choose, andThen, begun, keep, hold, entryBy, runBy, blockBy, entryAt, runAt, walk}
-use Rattle.grammar.specs.WalkLaws.{never, chose, passed, First, first, after, Grew, grew-none, grew-append, state≡}
+use Rattle.grammar.specs.Grammar.{Item, ochk, Run, ends, goes, Entry, is-message, is-continuation, Block, is-block}
+use Rattle.grammar.specs.Walk.{Walked, choose, begun, keep, hold, entryBy, runBy, blockBy, entryAt, runAt}
+use Rattle.grammar.specs.WalkLaws.{never, chose, passed, first, Grew, grew-none, grew-append, state≡}
 use Rattle.format.specs.Laws as formats
 
 module _ (file : List ℕ) (prefix : ℕ) (One : ℕ → ℕ → Held → Type 0) (one : ℕ → Out Held)

@@ -1,16 +1,13 @@
 -- The definition, a step at a time: what each of its parts gives, by how its tests come out. Assumes nothing.
-use Prim.Native.Nat.{ℕ, zero, suc, _+_, _-_, _*_, _/_, _≤_, _<_, max}
-use mathlib.Core.Path.{_≡_, refl, sym, ap, _∙_, subst}
-use mathlib.Core.Bool.{Bool, true, false}
-use mathlib.Core.List.{List, [], _∷_}
-use native.Mathlib.Omega.{arith}
+use Prim.Native.Nat.{ℕ, suc, _+_, _-_, _/_, _≤_, _<_}
+use mathlib.Core.Path.{_≡_, _∙_}
+use mathlib.Core.List.{List}
 use lib.ListN.{length}
-use lib.Dec.{leb, ltb}
 use borrow.Author.Tests.{le-leb, lt-leb, lt-ltb, le-ltb}
 use Rattle.format.specs.Format.{Out, found, refused, read}
 use Rattle.grammar.specs.Message.{Message, Held, message, continuation}
 use Rattle.grammar.specs.Grammar.{ochk}
-use Rattle.grammar.specs.Walk.{Walked, choose, andThen, begun, filled, keep, hold, entryBy, runBy, blockBy, entryAt, runAt, walk}
+use Rattle.grammar.specs.Walk.{Walked, begun, filled, keep, hold, entryBy, runBy, blockBy}
 use Rattle.grammar.specs.WalkLaws.{choose-yes, choose-no, andThen-found, andThen-refused}
 
 module _ (file : List ℕ) (prefix : ℕ) (one : ℕ → Out Held) where

@@ -1,22 +1,21 @@
 -- The definition accepts exactly what has a reading within the limits, with that reading's end, count and rows. Assumes nothing.
-use Prim.Native.Nat.{ℕ, zero, suc, _+_, _-_, _*_, _/_, _≤_, _<_, max}
+use Prim.Native.Nat.{ℕ, _+_, _-_, _*_, _≤_, max}
 use mathlib.Core.Path.{_≡_, refl, sym, ap, ap₂, _∙_, subst}
-use mathlib.Core.Bool.{Bool, true, false}
-use mathlib.Core.List.{List, [], _∷_, _++_}
+use mathlib.Core.List.{List, _++_}
 use mathlib.Core.Logic.{_↔_}
 use native.Mathlib.Omega.{arith}
 use lib.ListN.{length, drop}
 use lib.Dec.{leb}
 use borrow.Author.Tests.{le-leb, leb-true}
-use Rattle.format.specs.Format.{Out, found, refused}
-use Rattle.grammar.specs.Message.{Message, Held, message, continuation}
-use Rattle.grammar.specs.Grammar.{Item, Run, Reading}
-use Rattle.grammar.specs.Table.{encode, putAll, messagesOf, messages}
+use Rattle.format.specs.Format.{Out, found}
+use Rattle.grammar.specs.Message.{Held}
+use Rattle.grammar.specs.Grammar.{Item, Reading}
+use Rattle.grammar.specs.Table.{encode, messagesOf, messages}
 use Rattle.grammar.specs.TableLaws.{putAll-eq}
-use Rattle.grammar.specs.Walk.{Walked, choose, andThen, runAt, walk}
-use Rattle.grammar.specs.WalkLaws.{passed, First, first, choose-yes, andThen-found, after, Grew, state≡}
-use Rattle.grammar.specs.Sound.{Grown, runAt-sound}
-use Rattle.grammar.specs.Complete.{Fit, run-complete}
+use Rattle.grammar.specs.Walk.{Walked, runAt, walk}
+use Rattle.grammar.specs.WalkLaws.{passed, first, choose-yes, andThen-found, after, state≡}
+use Rattle.grammar.specs.Sound.{runAt-sound}
+use Rattle.grammar.specs.Complete.{run-complete}
 
 -- a reading within the limits, with its end, and in s its counts of entries and of messages, and what the table t holds after it: the rows, then the rest untouched
 pub record Read (file : List ℕ) (prefix : ℕ) (One : ℕ → ℕ → Held → Type 0) (p e : ℕ) (t : List ℕ) (next : ℕ) (s : Walked) : Type 0 where

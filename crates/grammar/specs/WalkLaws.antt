@@ -1,15 +1,14 @@
 -- Choices, what follows a find, and how a state grows. Assumes nothing.
-use Prim.Native.Nat.{ℕ, zero, suc, _+_, _-_, _*_, _≤_, _<_}
+use Prim.Native.Nat.{ℕ, _+_, _-_, _*_, _≤_}
 use mathlib.Core.Path.{_≡_, refl, sym, ap, _∙_}
 use mathlib.Core.Bool.{Bool, true, false}
 use mathlib.Core.Logic.{_⊎_, inl, inr}
-use mathlib.Core.List.{List, [], _∷_, _++_}
+use mathlib.Core.List.{List, [], _++_}
 use native.Mathlib.Omega.{arith}
 use lib.ListN.{length, length-append}
 use Rattle.format.specs.Format.{Out, found, refused}
-use Rattle.grammar.specs.Message.{Message, Held, message, continuation}
 use Rattle.grammar.specs.Grammar.{Item}
-use Rattle.grammar.specs.Table.{put, putAll, messagesOf, messages}
+use Rattle.grammar.specs.Table.{putAll, messagesOf, messages}
 use Rattle.grammar.specs.TableLaws.{putAll-append, length-putAll, messagesOf-append, messages-append}
 use Rattle.grammar.specs.Walk.{Walked, choose, andThen}
 

@@ -1,6 +1,5 @@
 -- What the answers of the field readers mean. Assumes nothing: these are definitions.
 use Prim.Native.Nat.{ℕ}
-use mathlib.Core.Bool.{Bool}
 use lib.Dec.{leb}
 use Rattle.format.specs.Format.{Format, done, number, check, Out, found, refused}
 use Rattle.records.specs.Refusals.{refusalNumber}

@@ -1,5 +1,5 @@
 -- Laws of comparing. Assumes nothing.
-use Prim.Native.Nat.{ℕ, _+_, _-_, _≤_, _<_}
+use Prim.Native.Nat.{ℕ, _+_, _-_, _<_}
 use mathlib.Core.Path.{_≡_, refl, sym, ap, _∙_}
 use mathlib.Core.Bool.{Bool, true, false, false≢true}
 use mathlib.Core.List.{List, [], _∷_, _++_, append-assoc, append-nil}
@@ -10,7 +10,7 @@ use lib.Dec.{leb}
 use borrow.Author.Tests.{leb-true, le-leb}
 use Rattle.matcher.specs.declared.Matched.{Matched}
 use Rattle.matcher.specs.declared.Matched.the-variants as matches
-use Rattle.matcher.specs.Follows.{Meets, Follows, Whole, start}
+use Rattle.matcher.specs.Follows.{Meets, Follows, Whole}
 
 same-rest : (xs ys zs : List ℕ) → xs ++ ys ≡ xs ++ zs → ys ≡ zs
 same-rest xs ys zs e = sym (drop-append-seam xs ys) ∙ ap (drop (length xs)) e ∙ drop-append-seam xs zs

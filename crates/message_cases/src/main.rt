@@ -13,7 +13,7 @@ fn run(cases: &[u8]) {
     while at < cases.len() {
         let s = message_runner::run_case(cases, at);
         let message_runner::Step::Ran(ok, next) = s else {
-            case_file::tell_end(run, failed, false);
+            test_file::tell_end(run, failed, false);
             return;
         };
         run += 1;
@@ -23,11 +23,11 @@ fn run(cases: &[u8]) {
         }
         at = next;
     }
-    case_file::tell_end(run, failed, true);
+    test_file::tell_end(run, failed, true);
 }
 
 fn main() {
     let mut buf = [0u8; 262144];
-    let n = case_file::load(b"cases", &mut buf);
+    let n = test_file::load(b"cases", &mut buf);
     run(&buf[..n]);
 }

@@ -2,8 +2,6 @@
 // are expected. The first word is 0, or a refusal's number and then the only one; after a 0 stand
 // the position after the message and its fields in the record's order. A field that may be absent
 // has two words: 0 0, or 1 and its value. Sizes have five: their count, and four sizes.
-use case_file::PartEnd;
-use case_file::part_end;
 use helpers::Place;
 use helpers::ReadU8;
 use helpers::ReadU64;
@@ -38,6 +36,8 @@ use records::OptionU16;
 use records::OptionU32;
 use records::OptionU64;
 use records::Refusal;
+use test_file::PartEnd;
+use test_file::part_end;
 ghost use Prim.Native.Nat.{_+_, _≤_, _<_};
 ghost use lib.ListN.{length};
 ghost use Rattle.parser.specs.States.{Widths};

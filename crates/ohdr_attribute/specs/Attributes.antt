@@ -8,7 +8,6 @@ use Rattle.records.specs.declared.OptionPart.the-variants as parts
 use Rattle.records.specs.declared.Part.{Part}
 use Rattle.records.specs.declared.Attribute.{Attribute}
 use Rattle.records.specs.declared.DataType.{DataType}
-use Rattle.records.specs.declared.DataSpace.{DataSpace}
 use Rattle.parser.specs.declared.State.{State}
 use Rattle.ohdr_attribute.specs.declared.AttributeFields.{AttributeFields}
 use Rattle.ohdr_datatype.specs.DataTypes.{classOf, dataType, typeLevels}

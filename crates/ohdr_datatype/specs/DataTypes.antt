@@ -1,11 +1,10 @@
 -- IV.A.2.d, the datatype message, versions 1 and 3. Assumes nothing: these are definitions.
 use Prim.Native.Nat.{ℕ, zero, suc, _+_, _-_, _/_, _%_}
-use mathlib.Core.Bool.{Bool, true, false, _&&_, _||_}
+use mathlib.Core.Bool.{Bool, _&&_, _||_}
 use lib.Dec.{eqb, ltb}
 use Rattle.format.specs.Format.{Format, done, refuse, number, skip, name, bind, times, check, pick, nothing}
 use Rattle.records.specs.declared.OptionU32.{OptionU32}
 use Rattle.records.specs.declared.OptionU32.the-variants as options32
-use Rattle.records.specs.declared.DataFormat.{DataFormat}
 use Rattle.records.specs.declared.DataFormat.the-variants as formats
 use Rattle.records.specs.declared.OptionDataFormat.{OptionDataFormat}
 use Rattle.records.specs.declared.OptionDataFormat.the-variants as optionFormats

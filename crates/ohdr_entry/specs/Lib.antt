@@ -1,4 +1,4 @@
-pub mod Code
-pub mod Loop
-pub mod Rows
-pub mod Entering
+pub mod Entries
+pub mod Answers
+pub mod Facts
+pub mod Entered

@@ -1,262 +1,314 @@
-// Entries and the blocks that continuations open (ohdr_message.rs, message_entry, message_continue
-// and collect_all_messages), with the rows of a lent table.
+// An entry of an object header by itself (ohdr_message.rs, message_entry and message_kind): its
+// prefix, its body by its type, and the rest of its size.
 use helpers::Place;
-use helpers::ReadU32;
-use helpers::le_u32;
+use helpers::ReadU8;
+use helpers::ReadU16;
+use helpers::Taken;
+use helpers::le_u8;
+use helpers::le_u16;
+use helpers::take;
+use ohdr_attribute::AttributeRead;
+use ohdr_attribute::message_attribute;
+use ohdr_dataspace::message_data_space;
+use ohdr_datatype::DataTypeRead;
+use ohdr_datatype::message_data_type;
+use ohdr_info::AttributeInfoRead;
 use ohdr_info::Continuation;
-use ohdr_message::EntryRead;
-use ohdr_message::Row;
-use ohdr_message::entry_alone;
+use ohdr_info::ContinuationRead;
+use ohdr_info::GroupInfoRead;
+use ohdr_info::LinkInfoRead;
+use ohdr_info::message_attribute_info;
+use ohdr_info::message_continuation;
+use ohdr_info::message_group_info;
+use ohdr_info::message_link_info;
+use ohdr_storage::PartRead;
+use ohdr_storage::message_data_fill;
+use ohdr_storage::message_data_fill_old;
+use ohdr_storage::message_data_layout;
+use ohdr_storage::message_filter_pipeline;
 use parser::State;
 use records::OptionPart;
 use records::Refusal;
 ghost use mathlib.Core.Path.{_≡_};
-ghost use Prim.Native.Nat.{_+_, _-_, _*_, _/_, _≤_, _<_, _^_, max};
-ghost use lib.ListN.{length};
-ghost use lib.Seq.{sets};
-ghost use Rattle.format.specs.Format.{read};
-ghost use Rattle.helpers.specs.Answers.{placeOut};
+ghost use Prim.Native.Nat.{_+_, _-_, _≤_};
+ghost use Rattle.format.specs.Format.{read, skip, nothing};
+ghost use Rattle.helpers.specs.Answers.{takenOut, placeOut};
 ghost use Rattle.parser.specs.States.{Widths};
-ghost use Rattle.grammar.specs.Grammar.{ochk};
-ghost use Rattle.grammar.specs.Message.{partWords};
-ghost use Rattle.ohdr_message.specs.Entries.{prefixSize};
-ghost use Rattle.ohdr_message.specs.Answers.{rowWords};
-ghost use Rattle.ohdr_entry.specs.Code.{EndsInside, walkedOf, walkOut, entryOf, blockOf, runOf, walkOf};
+ghost use Rattle.ohdr_info.specs.Info.{linkInfo, groupInfo, attributeInfo};
+ghost use Rattle.ohdr_datatype.specs.DataTypes.{dataType};
+ghost use Rattle.ohdr_dataspace.specs.DataSpaces.{dataSpace};
+ghost use Rattle.ohdr_entry.specs.Entries.{creationOrder, prefix as prefixFormat, plainBody, layoutBody, attributeBody, body, messageHeld, continuationHeld, closed, entry};
+ghost use Rattle.ohdr_entry.specs.Answers.{passed, prefixOut, figuresOf, bodyOut, seen, entryOut};
 
-// What does not change while a header is walked: the state of the file, and the header's flags.
-pub struct Header {
-    pub state: State,
+// What stands before an entry's body.
+pub struct Prefix {
+    pub kind: u8,
+    pub size: u16,
     pub flags: u8,
 }
 
-// How far a walk has come: the next position, the rows filled, the entries begun.
-pub struct Progress {
-    pub at: usize,
-    pub rows: usize,
-    pub entries: usize,
-}
-
-pub enum Walk {
-    Done(Progress),
+pub enum PrefixRead {
+    Read(Prefix, usize),
     Refused(Refusal),
 }
 
-// A part in three words of the table.
-fn put_part(table: &mut [u64], at: usize, part: OptionPart)
-    requires { ⌜ at + 3 ≤ length (now table) ⌝ }
-    ensures { λ _. ⌜ now (table .exit) ≡ sets (now (table .entry)) at (partWords part) ⌝ }
+// What a row shows of a body: its name and its part, where it has them.
+pub struct Figures {
+    pub name: OptionPart,
+    pub part: OptionPart,
+}
+
+pub enum BodyRead {
+    Read(Figures, usize),
+    Refused(Refusal),
+}
+
+// The figures of a message.
+pub struct Row {
+    pub kind: u8,
+    pub flags: u8,
+    pub size: u16,
+    pub body: usize,
+    pub name: OptionPart,
+    pub part: OptionPart,
+}
+
+pub enum EntryRead {
+    Message(Row, usize),
+    Continuation(Continuation, usize),
+    Refused(Refusal),
+}
+
+// The creation order, where header flag bit 2 is set.
+fn creation_order(file: &[u8], at: usize, header_flags: u8) -> Taken
+    ensures { λ r. ⌜ takenOut r ≡ read (now (file .entry)) (creationOrder «header_flags») at ⌝ }
 {
-    match part {
-        OptionPart::None => {
-            table[at] = 0;
-            table[at + 1] = 0;
-            table[at + 2] = 0;
-        }
-        OptionPart::Some(p) => {
-            table[at] = 1;
-            table[at + 1] = p.position as u64;
-            table[at + 2] = p.length as u64;
-        }
+    if header_flags & 4 == 0 {
+        return Taken::At(at);
     }
-}
-
-// A row of the table.
-fn put_row(table: &mut [u64], row: usize, figures: Row)
-    requires { ⌜ row < length (now table) / 10 ⌝ }
-    ensures { λ _. ⌜ now (table .exit) ≡ sets (now (table .entry)) (row * 10) (rowWords figures) ⌝ }
-{
-    let first = row * 10;
-    table[first] = figures.kind as u64;
-    table[first + 1] = figures.flags as u64;
-    table[first + 2] = figures.size as u64;
-    table[first + 3] = figures.body as u64;
-    let name = figures.name;
-    let part = figures.part;
-    put_part(table, first + 4, name);
-    put_part(table, first + 7, part);
-}
-
-// The bytes of an entry before its body.
-pub fn message_prefix_size(flags: u8) -> usize
-    ensures { λ r. ⌜ r ≡ prefixSize flags ⌝ }
-{
-    if flags & 4 != 0 { 6 } else { 4 }
-}
-
-// `OCHK` at an offset.
-fn block_signature(file: &[u8], at: usize) -> Place
-    ensures { λ r. ⌜ placeOut r ≡ read (now (file .entry)) ochk at ⌝ }
-{
-    let ReadU32::Value(mark, next) = le_u32(file, at) else {
-        return Place::Refused(Refusal::Short);
+    let ReadU16::Value(_, next) = le_u16(file, at) else {
+        return Taken::Short;
     };
-    if mark != 0x4B48434F {
-        return Place::Refused(Refusal::ContinuationSignature);
-    }
-    Place::At(next)
+    Taken::At(next)
 }
 
-// An entry, and where it is a continuation the block that it opens. `levels` more levels of blocks
-// are allowed.
-fn message_entry(
-    file: &[u8],
-    table: &mut [u64],
-    header: Header,
-    from: Progress,
-    levels: usize,
-) -> Walk
-    requires { ⌜ Widths (header .state) × (levels ≤ 25) ⌝ }
-    ensures { λ r. ⌜ walkOut r (now (table .exit)) ≡ entryOf (now (file .entry)) header levels (from .at) (walkedOf from (now (table .entry))) ⌝ }
+// Flags other than bits 0 and 2 are refused.
+fn entry_prefix(file: &[u8], at: usize, header_flags: u8) -> PrefixRead
+    ensures { λ r. ⌜ prefixOut r ≡ read (now (file .entry)) (prefixFormat «header_flags») at ⌝ }
 {
-    let at = from.at;
-    let rows = from.rows;
-    let entries = from.entries;
-    if 4096 <= entries {
-        return Walk::Refused(Refusal::Entries);
+    let ReadU8::Value(kind, size_at) = le_u8(file, at) else {
+        return PrefixRead::Refused(Refusal::Short);
+    };
+    let ReadU16::Value(size, flags_at) = le_u16(file, size_at) else {
+        return PrefixRead::Refused(Refusal::Short);
+    };
+    let ReadU8::Value(flags, order_at) = le_u8(file, flags_at) else {
+        return PrefixRead::Refused(Refusal::Short);
+    };
+    if flags & 0b1111_1010 != 0 {
+        return PrefixRead::Refused(Refusal::EntryFlags);
     }
-    match entry_alone(file, at, header.flags, header.state) {
-        EntryRead::Refused(r) => Walk::Refused(r),
-        EntryRead::Message(figures, next) => {
-            if rows < table.len() / 10 {
-                put_row(table, rows, figures);
-                Walk::Done(Progress {
-                    at: next,
-                    rows: rows + 1,
-                    entries: entries + 1,
-                })
-            } else {
-                Walk::Refused(Refusal::Table)
-            }
+    let Taken::At(next) = creation_order(file, order_at, header_flags) else {
+        return PrefixRead::Refused(Refusal::Short);
+    };
+    PrefixRead::Read(Prefix { kind, size, flags }, next)
+}
+
+fn body_data_space(file: &[u8], at: usize, state: State) -> Place
+    requires { ⌜ Widths state ⌝ }
+    ensures { λ r. ⌜ placeOut r ≡ passed (read (now (file .entry)) (dataSpace state) at) ⌝ }
+{
+    let answer = message_data_space(file, at, state);
+    answer.answer
+}
+
+fn body_link_info(file: &[u8], at: usize, state: State) -> Place
+    requires { ⌜ Widths state ⌝ }
+    ensures { λ r. ⌜ placeOut r ≡ passed (read (now (file .entry)) (linkInfo state) at) ⌝ }
+{
+    match message_link_info(file, at, state) {
+        LinkInfoRead::Read(_, next) => Place::At(next),
+        LinkInfoRead::Refused(r) => Place::Refused(r),
+    }
+}
+
+fn body_data_type(file: &[u8], at: usize) -> Place
+    ensures { λ r. ⌜ placeOut r ≡ passed (read (now (file .entry)) (dataType 32) at) ⌝ }
+{
+    match message_data_type(file, at, 32) {
+        DataTypeRead::Read(_, next) => Place::At(next),
+        DataTypeRead::Refused(r) => Place::Refused(r),
+    }
+}
+
+fn body_group_info(file: &[u8], at: usize) -> Place
+    ensures { λ r. ⌜ placeOut r ≡ passed (read (now (file .entry)) groupInfo at) ⌝ }
+{
+    match message_group_info(file, at) {
+        GroupInfoRead::Read(_, next) => Place::At(next),
+        GroupInfoRead::Refused(r) => Place::Refused(r),
+    }
+}
+
+fn body_attribute_info(file: &[u8], at: usize, state: State) -> Place
+    requires { ⌜ Widths state ⌝ }
+    ensures { λ r. ⌜ placeOut r ≡ passed (read (now (file .entry)) (attributeInfo state) at) ⌝ }
+{
+    match message_attribute_info(file, at, state) {
+        AttributeInfoRead::Read(_, next) => Place::At(next),
+        AttributeInfoRead::Refused(r) => Place::Refused(r),
+    }
+}
+
+// A body of which a row shows neither name nor part. A body that is skipped has no fields.
+fn plain_body(file: &[u8], at: usize, kind: u8, state: State) -> Place
+    requires { ⌜ Widths state ⌝ }
+    ensures { λ r. ⌜ placeOut r ≡ passed (read (now (file .entry)) (plainBody state kind) at) ⌝ }
+{
+    match kind {
+        1 => body_data_space(file, at, state),
+        2 => body_link_info(file, at, state),
+        3 => body_data_type(file, at),
+        4 => message_data_fill_old(file, at),
+        5 => message_data_fill(file, at),
+        10 => body_group_info(file, at),
+        11 => message_filter_pipeline(file, at),
+        21 => body_attribute_info(file, at, state),
+        _ => Place::At(at),
+    }
+}
+
+// A layout: its data are its part.
+fn body_data_layout(file: &[u8], at: usize, state: State) -> BodyRead
+    requires { ⌜ Widths state ⌝ }
+    ensures { λ r. ⌜ bodyOut r ≡ figuresOf (read (now (file .entry)) (layoutBody state) at) ⌝ }
+{
+    match message_data_layout(file, at, state) {
+        PartRead::Read(part, next) => BodyRead::Read(
+            Figures {
+                name: OptionPart::None,
+                part: OptionPart::Some(part),
+            },
+            next,
+        ),
+        PartRead::Refused(r) => BodyRead::Refused(r),
+    }
+}
+
+// An attribute: its name, and its value as its part.
+fn body_attribute(file: &[u8], at: usize, state: State) -> BodyRead
+    requires { ⌜ Widths state ⌝ }
+    ensures { λ r. ⌜ bodyOut r ≡ figuresOf (read (now (file .entry)) (attributeBody state) at) ⌝ }
+{
+    match message_attribute(file, at, state) {
+        AttributeRead::Read(attribute, next) => {
+            let name = attribute.name;
+            let part = attribute.value;
+            BodyRead::Read(
+                Figures {
+                    name: OptionPart::Some(name),
+                    part,
+                },
+                next,
+            )
         }
-        EntryRead::Continuation(continuation, next) => {
-            if levels == 0 {
-                return Walk::Refused(Refusal::BlockLevel);
-            }
-            let opened = Progress {
-                at: next,
-                rows,
-                entries: entries + 1,
+        AttributeRead::Refused(r) => BodyRead::Refused(r),
+    }
+}
+
+// A body by the type of its message.
+fn message_kind(file: &[u8], at: usize, kind: u8, state: State) -> BodyRead
+    requires { ⌜ Widths state ⌝ }
+    ensures { λ r. ⌜ bodyOut r ≡ figuresOf (read (now (file .entry)) (body state kind) at) ⌝ }
+{
+    if kind == 8 {
+        return body_data_layout(file, at, state);
+    }
+    if kind == 12 {
+        return body_attribute(file, at, state);
+    }
+    match plain_body(file, at, kind, state) {
+        Place::Refused(r) => BodyRead::Refused(r),
+        Place::At(next) => BodyRead::Read(
+            Figures {
+                name: OptionPart::None,
+                part: OptionPart::None,
+            },
+            next,
+        ),
+    }
+}
+
+// The rest of an entry's size, where its fields used less: an entry ends at the larger of the two.
+fn close_entry(file: &[u8], body_at: usize, size: u16, used: usize) -> Taken
+    requires { ⌜ «body_at» ≤ used ⌝ }
+    ensures { λ r. ⌜ takenOut r ≡ read (now (file .entry)) (skip («body_at» + size - used) nothing) used ⌝ }
+{
+    let fields = used - body_at;
+    let size = size as usize;
+    if size <= fields {
+        return take(file, used, 0);
+    }
+    take(file, used, size - fields)
+}
+
+// A continuation, closed. Its block is not read here.
+fn entry_continuation(file: &[u8], body_at: usize, prefix: Prefix, state: State) -> EntryRead
+    requires { ⌜ Widths state ⌝ }
+    ensures { λ r. ⌜ entryOut r ≡ seen (read (now (file .entry)) (closed continuationHeld state prefix «body_at») «body_at») ⌝ }
+{
+    match message_continuation(file, body_at, state) {
+        ContinuationRead::Refused(r) => EntryRead::Refused(r),
+        ContinuationRead::Read(continuation, used) => {
+            let Taken::At(next) = close_entry(file, body_at, prefix.size, used) else {
+                return EntryRead::Refused(Refusal::Short);
             };
-            match message_continue(file, table, header, opened, continuation, levels - 1) {
-                Walk::Refused(r) => Walk::Refused(r),
-                Walk::Done(p) => Walk::Done(Progress {
-                    at: next,
-                    rows: p.rows,
-                    entries: p.entries,
-                }),
+            EntryRead::Continuation(continuation, next)
+        }
+    }
+}
+
+// A message, closed.
+fn entry_message(file: &[u8], body_at: usize, prefix: Prefix, state: State) -> EntryRead
+    requires { ⌜ Widths state ⌝ }
+    ensures { λ r. ⌜ entryOut r ≡ seen (read (now (file .entry)) (closed messageHeld state prefix «body_at») «body_at») ⌝ }
+{
+    match message_kind(file, body_at, prefix.kind, state) {
+        BodyRead::Refused(r) => EntryRead::Refused(r),
+        BodyRead::Read(figures, used) => {
+            let Taken::At(next) = close_entry(file, body_at, prefix.size, used) else {
+                return EntryRead::Refused(Refusal::Short);
+            };
+            let name = figures.name;
+            let part = figures.part;
+            EntryRead::Message(
+                Row {
+                    kind: prefix.kind,
+                    flags: prefix.flags,
+                    size: prefix.size,
+                    body: body_at,
+                    name,
+                    part,
+                },
+                next,
+            )
+        }
+    }
+}
+
+// An entry by itself: its prefix, its body, and the rest of its size.
+pub fn entry_alone(file: &[u8], at: usize, header_flags: u8, state: State) -> EntryRead
+    requires { ⌜ Widths state ⌝ }
+    ensures { λ r. ⌜ entryOut r ≡ seen (read (now (file .entry)) (entry state «header_flags») at) ⌝ }
+{
+    match entry_prefix(file, at, header_flags) {
+        PrefixRead::Refused(r) => EntryRead::Refused(r),
+        PrefixRead::Read(prefix, body_at) => {
+            if prefix.kind == 16 {
+                entry_continuation(file, body_at, prefix, state)
+            } else {
+                entry_message(file, body_at, prefix, state)
             }
         }
     }
-}
-
-// The block that a continuation opens: its signature, its entries, and a skip to its end.
-fn message_continue(
-    file: &[u8],
-    table: &mut [u64],
-    header: Header,
-    from: Progress,
-    block: Continuation,
-    levels: usize,
-) -> Walk
-    requires { ⌜ Widths (header .state) × (levels ≤ 25) × (from .entries ≤ 4096) × (8 ≤ block .length) × (block .offset + block .length < 2 ^ 64) ⌝ }
-    ensures { λ r. ⌜ walkOut r (now (table .exit)) ≡ blockOf (now (file .entry)) header levels (walkedOf from (now (table .entry))) (block .offset) (block .length) ⌝ }
-{
-    let start = match block_signature(file, block.offset as usize) {
-        Place::At(p) => p,
-        Place::Refused(r) => {
-            return Walk::Refused(r);
-        }
-    };
-    let whole = block.offset as usize + block.length as usize;
-    let end = whole - 4;
-    let first = Progress {
-        at: start,
-        rows: from.rows,
-        entries: from.entries,
-    };
-    let progress = match message_run(file, table, header, first, end, levels) {
-        Walk::Done(p) => p,
-        Walk::Refused(r) => {
-            return Walk::Refused(r);
-        }
-    };
-    if whole <= progress.at {
-        return Walk::Done(progress);
-    }
-    if file.len() < whole {
-        return Walk::Refused(Refusal::Short);
-    }
-    Walk::Done(Progress {
-        at: whole,
-        rows: progress.rows,
-        entries: progress.entries,
-    })
-}
-
-// Entries from a position on, while position plus prefix is at most the end: a header's own, or a
-// block's.
-fn message_run(
-    file: &[u8],
-    table: &mut [u64],
-    header: Header,
-    from: Progress,
-    end: usize,
-    levels: usize,
-) -> Walk
-    requires { ⌜ Widths (header .state) × (levels ≤ 25) × (from .entries ≤ 4096) × (from .at ≤ length (now file)) ⌝ }
-    ensures { λ r. ⌜ walkOut r (now (table .exit)) ≡ runOf (now (file .entry)) header levels end (from .at) (walkedOf from (now (table .entry))) ⌝ }
-    ensures { λ r. ⌜ EndsInside r (now (file .entry)) ⌝ }
-{
-    let prefix = message_prefix_size(header.flags);
-    let mut progress = from;
-    while progress.at + prefix <= end {
-        match message_entry(file, table, header, progress, levels) {
-            Walk::Refused(r) => {
-                return Walk::Refused(r);
-            }
-            Walk::Done(p) => {
-                progress = p;
-            }
-        }
-    }
-    Walk::Done(progress)
-}
-
-fn larger(a: usize, b: usize) -> usize
-    ensures { λ r. ⌜ r ≡ max a b ⌝ }
-{
-    if a < b { b } else { a }
-}
-
-// A header's own entries, the gap up to the chunk's end, and 4 bytes of checksum.
-pub fn collect_all_messages(
-    file: &[u8],
-    table: &mut [u64],
-    header: Header,
-    at: usize,
-    end: usize,
-) -> Walk
-    requires { ⌜ Widths (header .state) × (at ≤ length (now file)) × (end ≤ length (now file) + 16777216) × (length (now file) ≤ 2147483648) ⌝ }
-    ensures { λ r. ⌜ walkOut r (now (table .exit)) ≡ walkOf (now (file .entry)) header end at (now (table .entry)) ⌝ }
-{
-    let first = Progress {
-        at,
-        rows: 0,
-        entries: 0,
-    };
-    let progress = match message_run(file, table, header, first, end, 25) {
-        Walk::Done(p) => p,
-        Walk::Refused(r) => {
-            return Walk::Refused(r);
-        }
-    };
-    let next = larger(progress.at, end) + 4;
-    if file.len() < next {
-        return Walk::Refused(Refusal::Short);
-    }
-    Walk::Done(Progress {
-        at: next,
-        rows: progress.rows,
-        entries: progress.entries,
-    })
 }

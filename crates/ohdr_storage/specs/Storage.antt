@@ -1,6 +1,6 @@
 -- The messages on how data are stored, by the sections of the HDF5 File Format Specification. Assumes nothing: these are definitions.
 use Prim.Native.Nat.{ℕ, _+_, _*_, _/_, _%_}
-use mathlib.Core.Bool.{Bool, _&&_, _||_}
+use mathlib.Core.Bool.{_||_}
 use lib.Dec.{eqb, leb, ltb}
 use Rattle.format.specs.Bits.{bit}
 use Rattle.format.specs.Format.{Format, done, refuse, number, skip, bytes, there, bind, times, check, pick, nothing}

@@ -1,6 +1,6 @@
 -- The widths of a state that was made are allowed ones. Assumes nothing.
-use Prim.Native.Nat.{ℕ, _≤_}
-use mathlib.Core.Path.{_≡_, refl, sym, _∙_, ap}
+use Prim.Native.Nat.{ℕ}
+use mathlib.Core.Path.{_≡_, refl, sym}
 use mathlib.Core.Bool.{Bool, true, false, _&&_}
 use native.Mathlib.Omega.{arith}
 use lib.Dec.{leb}
@@ -9,7 +9,6 @@ use Rattle.format.specs.Format.{pick}
 use Rattle.format.specs.BytesLaws.{and-left, and-right}
 use Rattle.records.specs.declared.Refusal.the-variants as refusals
 use Rattle.parser.specs.declared.State.{State}
-use Rattle.parser.specs.declared.NewState.{NewState}
 use Rattle.parser.specs.declared.NewState.the-variants as states
 use Rattle.parser.specs.States.{Widths, widthAllowed, stateOf}
 

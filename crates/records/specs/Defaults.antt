@@ -1,5 +1,4 @@
 -- The record that stands for a missing one. Assumes nothing: these are definitions.
-use Prim.Native.Nat.{ℕ}
 use lib.ListN.{replicate}
 use Rattle.records.specs.declared.OptionU8.the-variants as options8
 use Rattle.records.specs.declared.OptionU16.the-variants as options16

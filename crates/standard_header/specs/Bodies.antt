@@ -24,7 +24,7 @@ use Rattle.ohdr_storage.specs.Storage.{fillOld, fill, dataLayout, filterPipelin
 use Rattle.ohdr_datatype.specs.DataTypes.{dataType, typeLevels}
 use Rattle.ohdr_dataspace.specs.DataSpaces.{dataSpace}
 use Rattle.ohdr_attribute.specs.Attributes.{attribute}
-use Rattle.ohdr_message.specs.Entries.{body, plainBody, layoutBody, attributeBody}
+use Rattle.ohdr_entry.specs.Entries.{body, plainBody, layoutBody, attributeBody}
 use Rattle.standard.specs.Tie.{Stood, Every}
 use Rattle.standard.specs.Dataspaces.{dataspaceMessage}
 use Rattle.standard.specs.Datatypes.{datatypeMessage}

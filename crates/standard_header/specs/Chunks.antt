@@ -16,8 +16,8 @@ use Rattle.format.specs.Standing.{stands-check}
 use Rattle.parser.specs.declared.State.{State}
 use Rattle.grammar.specs.Message.{Message, Held, message, continuation}
 use Rattle.grammar.specs.Grammar.{ochk, Item, Run, ends, goes, is-message, is-continuation, is-block}
-use Rattle.ohdr_message.specs.Entries.{prefixSize}
-use Rattle.ohdr_message.specs.Entered.{continued}
+use Rattle.ohdr_entry.specs.Entries.{prefixSize}
+use Rattle.ohdr_entry.specs.Entered.{continued}
 use Rattle.data_object_records.specs.Headers.{StandsEntry}
 use Rattle.standard.specs.Tie.{Stood, Every}
 use Rattle.standard.specs.Headers.{HeaderMessage, headerMessage, continuationSignature}

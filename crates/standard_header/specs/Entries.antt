@@ -14,8 +14,8 @@ use Rattle.format.specs.Standing.{stands-bind}
 use Rattle.parser.specs.declared.State.{State}
 use Rattle.grammar.specs.Message.{Message, Held, message, continuation}
 use Rattle.ohdr_info.specs.Info as info
-use Rattle.ohdr_message.specs.declared.Prefix.{Prefix}
-use Rattle.ohdr_message.specs.Entries.{prefix, body, messageHeld, continuationHeld, closed, entry}
+use Rattle.ohdr_entry.specs.declared.Prefix.{Prefix}
+use Rattle.ohdr_entry.specs.Entries.{prefix, body, messageHeld, continuationHeld, closed, entry}
 use Rattle.standard.specs.Fields.{Bytes, raw}
 use Rattle.standard.specs.Tie.{Stood, bind-stands}
 use Rattle.standard.specs.Headers.{MessagePrefix, messagePrefix, HeaderMessage, headerMessage, continuationMessage}

@@ -10,8 +10,8 @@ use borrow.Author.Tests.{not-true}
 use Rattle.format.specs.Bits.{bit}
 use Rattle.format.specs.Format.{Format, number, skip, bind, pick, nothing}
 use Rattle.grammar.specs.Grammar.{signature, ochk}
-use Rattle.ohdr_message.specs.declared.Prefix.{Prefix}
-use Rattle.ohdr_message.specs.Entries.{creationOrder, prefix}
+use Rattle.ohdr_entry.specs.declared.Prefix.{Prefix}
+use Rattle.ohdr_entry.specs.Entries.{creationOrder, prefix}
 use Rattle.data_object_records.specs.declared.HeaderFields.{HeaderFields}
 use Rattle.data_object_records.specs.Headers.{ohdr, headerFields}
 use Rattle.standard.specs.Fields.{Optional, only, optional}

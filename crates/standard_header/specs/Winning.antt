@@ -21,8 +21,8 @@ use Rattle.ohdr_info.specs.Info.{linkInfo, groupInfo, attributeInfo}
 use Rattle.ohdr_storage.specs.Storage.{dataLayout, emptyPart}
 use Rattle.ohdr_datatype.specs.DataTypes.{dataType, typeLevels}
 use Rattle.ohdr_dataspace.specs.DataSpaces.{dataSpace}
-use Rattle.ohdr_message.specs.Entries.{body, plainBody, layoutBody}
-use Rattle.ohdr_message.specs.Entered.{Bodied}
+use Rattle.ohdr_entry.specs.Entries.{body, plainBody, layoutBody}
+use Rattle.ohdr_entry.specs.Entered.{Bodied}
 use Rattle.data_object_records.specs.Headers.{Wins, win, winsAfter, winsOf, defaults, HeaderReading}
 use Rattle.data_object_records.specs.Winners.{valueOr}
 use Rattle.data_object_records.specs.WinnerLaws.{typeOf, typed, Won, all-bodied, space-won, type-won, link-won, group-won, info-won, data-won}

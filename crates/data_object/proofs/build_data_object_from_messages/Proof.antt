@@ -1,4 +1,3 @@
-use Rattle.data_object_records.specs.Winners.{winner}
 use mathlib.Core.Path.{refl}
 use native.Mathlib.Omega.{arith}
 use Rattle.data_object_records.specs.LastRows.{last-within, last-at}

@@ -1,9 +1,9 @@
 use Rattle.data_object.specs.DecodedLaws.{cleared-none, cleared-more}
 use Prim.Native.Nat.{ℕ, _-_, _+_, _≤_}
-use mathlib.Core.Path.{_≡_, refl, ap, sym, _∙_}
-use mathlib.Core.List.{List, _++_, append-nil, append-assoc}
+use mathlib.Core.Path.{_≡_, refl, ap, _∙_}
+use mathlib.Core.List.{List, _++_, append-nil}
 use native.Mathlib.Omega.{arith}
-use lib.ListN.{length, take, drop, set, replicate, length-set, drop-of-length-le, length-take}
+use lib.ListN.{length, take, drop, set, replicate, length-set, drop-of-length-le}
 use Rattle.data_object.proofs.clear.Statement.{statement}
 use Rattle.data_object.proofs.clear.Tie as tie
 

@@ -4,8 +4,8 @@ use native.Mathlib.Omega.{arith}
 use lib.ListN.{length, replicate}
 use Rattle.records.specs.declared.Refusal.the-variants as refusals
 use Rattle.parser.specs.StateLaws.{made-widths}
-use Rattle.ohdr_entry.specs.Code.{walkOut}
-use Rattle.ohdr_entry.specs.Loop.{met}
+use Rattle.ohdr_walk.specs.Code.{walkOut}
+use Rattle.ohdr_walk.specs.Loop.{met}
 use Rattle.data_object.specs.DecodedLaws.{no-width, too-large, walk-refused, walk-cleared, rows-fit, cleared-all, rejected-decoded, built-decoded}
 use borrow.Author.Needs.{needs}
 use Rattle.data_object.proofs.data_object.Statement.{statement}

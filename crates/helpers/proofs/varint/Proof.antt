@@ -6,10 +6,6 @@ use Prim.Native.Nat.{_+_}
 use borrow.Author.Needs.{needs}
 use Rattle.helpers.proofs.varint.Statement.{statement}
 use Rattle.helpers.proofs.varint.Tie as tie
-use Rattle.helpers.proofs.varint.Reads as reads
-use Rattle.helpers.proofs.varint.Lts as lts
-use Rattle.helpers.proofs.bytes_of.Reads as bytes-of-reads
-use Rattle.helpers.proofs.has.Reads as has-reads
 
 -- src/lib.rt:185:8
 has-requires : tie.Need-has-requires

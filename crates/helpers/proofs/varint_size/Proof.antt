@@ -3,9 +3,6 @@ use borrow.Author.Tests.{le-leb, lt-leb}
 use borrow.Author.Needs.{needs}
 use Rattle.helpers.proofs.varint_size.Statement.{statement}
 use Rattle.helpers.proofs.varint_size.Tie as tie
-use Rattle.helpers.proofs.varint_size.Reads as reads
-use Rattle.helpers.proofs.varint_size.Lts as lts
-use Rattle.helpers.proofs.varint.Reads as varint-reads
 
 -- src/lib.rt:197:9
 returns : tie.Need-returns

@@ -1,7 +1,7 @@
 use Prim.Native.Nat.{_+_, _≤_}
 use lib.ListN.{length}
 use native.Mathlib.Omega.{arith}
-use Rattle.case_file.specs.Laws.{part-later}
+use Rattle.test_file.specs.Laws.{part-later}
 use borrow.Author.Needs.{needs}
 use Rattle.message_runner.proofs.run_case.Statement.{statement}
 use Rattle.message_runner.proofs.run_case.Tie as tie

@@ -1,4 +1,0 @@
-pub mod Entries
-pub mod Answers
-pub mod Facts
-pub mod Entered

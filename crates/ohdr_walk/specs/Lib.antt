@@ -1,0 +1,4 @@
+pub mod Code
+pub mod Loop
+pub mod Rows
+pub mod Entering

@@ -1,0 +1,28 @@
+// Replays a stored answer.
+use data_object::data_object;
+use listing::LeadRead;
+use listing::read_lead;
+use matcher::ends;
+use test_report::expect_report;
+ghost use Rattle.test_replayer.specs.Replays.{Replays};
+
+// Whether the header of an input, decoded into a table of 64 rows, has the report that is expected.
+pub fn replays(input: &[u8], expected: &[u8]) -> bool
+    ensures { λ r. ⌜ Replays (now (input .entry)) (now (expected .entry)) r ⌝ }
+{
+    let LeadRead::Read(lead, start) = read_lead(input) else {
+        return false;
+    };
+    let file = &input[start..];
+    let mut table = [0u64; 640];
+    let object = data_object(
+        file,
+        lead.position,
+        lead.offsets as u64,
+        lead.lengths as u64,
+        lead.end_of_file,
+        &mut table,
+    );
+    let reached = expect_report(expected, file, &table, object);
+    ends(expected, reached)
+}
