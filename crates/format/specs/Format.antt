@@ -100,3 +100,7 @@ check test n F = pick test F (refuse n)
 -- nothing more, and no value
 abbrev pub nothing : Format (Unit {0})
 nothing = done tt
+
+-- a signature: four given bytes, as one little-endian number; others are refused
+abbrev pub signature : ℕ → ℕ → Format (Unit {0})
+signature mark refusal = number 4 (λ value. check (eqb value mark) refusal nothing)

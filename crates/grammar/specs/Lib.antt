@@ -10,4 +10,5 @@ pub mod Complete
 pub mod Unique
 pub mod Theorems
 pub mod Advance
+pub mod Filled
 pub mod Each

@@ -1,6 +1,5 @@
 -- What stands in an entry: a message with the figures of its row, or a continuation. Assumes nothing: these are definitions.
 use Prim.Native.Nat.{ℕ}
-use mathlib.Core.List.{List, [], _∷_, _++_}
 use Rattle.records.specs.declared.Part.{Part}
 use Rattle.records.specs.declared.OptionPart.{OptionPart}
 use Rattle.records.specs.declared.OptionPart.the-variants as parts
@@ -10,6 +9,7 @@ use Rattle.records.specs.declared.GroupInfo.{GroupInfo}
 use Rattle.records.specs.declared.AttributeInfo.{AttributeInfo}
 use Rattle.records.specs.declared.DataType.{DataType}
 use Rattle.records.specs.declared.Attribute.{Attribute}
+use Rattle.row.specs.declared.Row.{Row}
 
 -- what is kept of a message's body; of a fill value, a filter pipeline and a body that is skipped nothing is
 pub data Kept : Type 0 where
@@ -35,11 +35,6 @@ pub data Held : Type 0 where
   message : Message → Held
   continuation : ℕ → ℕ → Held
 
--- a part in three words: whether it is there, its position and its length; zeros where it is not
-abbrev pub partWords : OptionPart → List ℕ
-partWords (parts.Some p) = 1 ∷ p .position ∷ p .length ∷ []
-partWords parts.None = 0 ∷ 0 ∷ 0 ∷ []
-
 -- an attribute has a name
 abbrev pub nameOf : Kept → OptionPart
 nameOf nothing = parts.None
@@ -62,6 +57,6 @@ partOf (groupInfo g) = parts.None
 partOf (attribute a) = a .value
 partOf (attributeInfo a) = parts.None
 
--- a row's ten words: type, flags, size, body position, and three words each for name and part
-abbrev pub words : Message → List ℕ
-words m = (m .type ∷ m .flags ∷ m .size ∷ m .body ∷ []) ++ (partWords (nameOf (m .kept)) ++ partWords (partOf (m .kept)))
+-- a message's row
+abbrev pub rowOf : Message → Row
+rowOf m = record { kind = m .type; flags = m .flags; size = m .size; body = m .body; name = nameOf (m .kept); part = partOf (m .kept) }

@@ -1,132 +1,98 @@
--- What the definition finds stands by the grammar. Assumes nothing.
-use Prim.Native.Nat.{ℕ, zero, suc, _+_, _-_, _/_, _≤_, _<_}
-use mathlib.Core.Path.{_≡_, refl, sym, _∙_, subst}
+-- What the definition reaches stands by the grammar, within the limits: each of its tests is one of the grammar's. Assumes nothing.
+use Prim.Native.Nat.{ℕ, zero, suc, _+_, _-_, _≤_, _<_}
+use mathlib.Core.Path.{_≡_, subst, subst₂}
+use mathlib.Core.Bool.{true}
 use mathlib.Core.Logic.{_⊎_, ⊎-elim}
 use mathlib.Core.List.{List, [], _∷_, _++_}
 use native.Mathlib.Omega.{arith}
-use lib.ListN.{length}
 use lib.Dec.{leb, ltb}
 use borrow.Author.Tests.{leb-true, leb-false, ltb-true}
-use Rattle.format.specs.Format.{Out, found, refused, read, Stands}
-use Rattle.grammar.specs.Message.{Message, Held, message, continuation}
-use Rattle.grammar.specs.Grammar.{Item, ochk, Run, ends, goes, Entry, is-message, is-continuation, Block, is-block}
-use Rattle.grammar.specs.Walk.{Walked, choose, begun, keep, hold, entryBy, runBy, blockBy, entryAt, runAt}
-use Rattle.grammar.specs.WalkLaws.{never, chose, passed, first, Grew, grew-none, grew-append, state≡}
+use Rattle.format.specs.Format.{read}
 use Rattle.format.specs.Laws as formats
+use Rattle.grammar.specs.Message.{Held, message, continuation}
+use Rattle.grammar.specs.Grammar.{Source, Item, item, ochk, blockEnd, One, Run, ends, goes, Entry, is-message, is-continuation, Block, is-block}
+use Rattle.grammar.specs.Walk.{Went, reached, stopped, begun, Count, counted, opened, Limits, hold, entryBy, runBy, blockBy, entryAt, runAt}
+use Rattle.grammar.specs.WalkLaws.{chose, never, passed, first, was-found, Fit, fit-none, fit-append}
 
-module _ (file : List ℕ) (prefix : ℕ) (One : ℕ → ℕ → Held → Type 0) (one : ℕ → Out Held)
-    (one-sound : (p q : ℕ) (x : Held) → one p ≡ found x q → One p q x) where
-  -- what stands, of a kind P, by which s grew to s′
-  pub record Grown (P : List Item → Type 0) (s s′ : Walked) : Type 0 where
-    pub items : List Item
-    pub stands : P items
-    pub grew : Grew s s′ items
+module _ (src : Source) (l : Limits) where
+  -- what stands, of a kind P, and fits after s
+  abbrev pub Fitting : (List Item → Type 0) → Count → List Item → Type 0
+  Fitting P s xs = P xs × Fit l s xs
 
-  abbrev pub EntrySound : (ℕ → Walked → Out Walked) → ℕ → Type 0
-  EntrySound entry level = (p q : ℕ) (s s′ : Walked) → entry p s ≡ found s′ q → Grown (Entry file prefix One level p q) s s′
+  abbrev pub EntrySound : (ℕ → Count → Went (List Item)) → ℕ → Type 0
+  EntrySound entry level = (p q : ℕ) (s : Count) (xs : List Item) → s .entries ≤ l .entries → entry p s ≡ reached xs q → Fitting (Entry src level p q) s xs
 
-  abbrev pub RunSound : (ℕ → ℕ → Walked → Out Walked) → ℕ → Type 0
-  RunSound run level = (e p q : ℕ) (s s′ : Walked) → run e p s ≡ found s′ q → Grown (Run file prefix One level p e q) s s′
+  abbrev pub RunSound : (ℕ → ℕ → Count → Went (List Item)) → ℕ → Type 0
+  RunSound run level = (e p q : ℕ) (s : Count) (xs : List Item) → s .entries ≤ l .entries → run e p s ≡ reached xs q → Fitting (Run src level p e q) s xs
 
-  abbrev pub BlockSound : (Walked → ℕ → ℕ → Out Walked) → ℕ → Type 0
-  BlockSound block level = (o l q : ℕ) (s s′ : Walked) → block s o l ≡ found s′ q → (level ≤ 25) × Grown (Block file prefix One level o l) s s′
+  abbrev pub BlockSound : (Count → ℕ → ℕ → Went (List Item)) → ℕ → Type 0
+  BlockSound block level = (o n q : ℕ) (s : Count) (xs : List Item) → s .entries ≤ l .entries → block s o n ≡ reached xs q → (level ≤ 25) × Fitting (Block src level o n) s xs
 
-  run-ends : (level e p q : ℕ) (s s′ : Walked) → e < p + prefix → _≡_ {A = Out Walked} (found s p) (found s′ q) → Grown (Run file prefix One level p e q) s s′
-  run-ends level e p q s s′ h f =
-      let a : p ≡ q = cc in
-      let b : s ≡ s′ = cc in
-      record {
-        items = [];
-        stands = subst (λ (x : ℕ). Run file prefix One level p e x []) a (ends h);
-        grew = subst (λ (x : Walked). Grew s x []) b (grew-none s);
-      }
+  run-ends : (level e p q : ℕ) (s : Count) (xs : List Item) → s .entries ≤ l .entries → e < p + src .prefix → _≡_ {A = Went (List Item)} (reached [] p) (reached xs q)
+      → Fitting (Run src level p e q) s xs
+  run-ends level e p q s xs b h f =
+      let u : p ≡ q = cc in
+      let v : [] ≡ xs = cc in
+      subst₂ (λ (x : ℕ) (ys : List Item). Fitting (Run src level p e x) s ys) u v (ends h, fit-none l s b)
 
-  run-goes : (level e p m q : ℕ) (s s₁ s′ : Walked) → p + prefix ≤ e → Grown (Entry file prefix One level p m) s s₁ → Grown (Run file prefix One level m e q) s₁ s′ → Grown (Run file prefix One level p e q) s s′
-  run-goes level e p m q s s₁ s′ h a b =
-      record { items = a .items ++ b .items; stands = goes h (a .stands) (b .stands); grew = grew-append (a .grew) (b .grew) }
-
-  run-sound : (level : ℕ) (entry : ℕ → Walked → Out Walked) → EntrySound entry level → (turns : ℕ) → RunSound (runBy file prefix one entry turns) level
+  run-sound : (level : ℕ) (entry : ℕ → Count → Went (List Item)) → EntrySound entry level → (turns : ℕ) → RunSound (runBy src l entry turns) level
   unfolding runBy
-  run-sound level entry h zero e p q s s′ f = never f
-  run-sound level entry h (suc turns) e p q s s′ f = ⊎-elim
-      (λ w. let v = first (entry p s) _ (w .1) in
-      run-goes level e p (v .next) q s (v .value) s′ (leb-true (p + prefix) e (w .0)) (h p (v .next) s (v .value) (v .first)) (run-sound level entry h turns e (v .next) q (v .value) s′ (v .then)))
-      (λ w. run-ends level e p q s s′ (leb-false (p + prefix) e (w .0)) (w .1))
-      (chose (leb (p + prefix) e) _ _ f)
+  run-sound level entry h zero e p q s xs b f = never f
+  run-sound level entry h (suc turns) e p q s xs b f = ⊎-elim
+      (λ w.
+      let v = first (entry p s) _ (w .1) in
+      let u = first (runBy src l entry turns e (v .next) (counted s (v .value))) _ (v .then) in
+      let i = h p (v .next) s (v .value) b (v .first) in
+      let j = run-sound level entry h turns e (v .next) (u .next) (counted s (v .value)) (u .value) (i .1 .few) (u .first) in
+      let a : u .next ≡ q = cc (u .then) in
+      let c : v .value ++ u .value ≡ xs = cc (u .then) in
+      subst₂ (λ (x : ℕ) (ys : List Item). Fitting (Run src level p e x) s ys) a c
+      (goes (leb-true (p + src .prefix) e (w .0)) (i .0) (j .0), fit-append l s (v .value) (u .value) (i .1) (j .1)))
+      (λ w. run-ends level e p q s xs b (leb-false (p + src .prefix) e (w .0)) (w .1))
+      (chose (leb (p + src .prefix) e) _ _ f)
 
-  block-of : (level o l start q : ℕ) (s s₁ : Walked) → Stands file ochk o start tt → (q < o + l → o + l ≤ length file)
-      → Grown (Run file prefix One level start (o + l - 4) q) s s₁ → Grown (Block file prefix One level o l) s s₁
-  block-of level o l start q s s₁ h t r = record { items = r .items; stands = is-block h (r .stands) t; grew = r .grew }
-
-  -- the skip at a block's end
-  skipped : (o l m q : ℕ) (s s′ : Walked)
-      → choose (leb (o + l) m) (λ _. found s m) (λ _. choose (leb (o + l) (length file)) (λ _. found s (o + l)) (λ _. refused 3)) ≡ found s′ q
-      → (s ≡ s′) × (m < o + l → o + l ≤ length file)
-  skipped o l m q s s′ f = ⊎-elim
-      (λ w. (cc, λ h. omega (arith, leb-true (o + l) m (w .0))))
-      (λ w. let v = passed (leb (o + l) (length file)) _ _ (w .1) in (cc, λ h. leb-true (o + l) (length file) (v .0)))
-      (chose (leb (o + l) m) _ _ f)
-
-  block-sound : (level : ℕ) (entry : ℕ → Walked → Out Walked) → level ≤ 25 → EntrySound entry level → BlockSound (blockBy file prefix one entry) level
+  block-sound : (level : ℕ) (entry : ℕ → Count → Went (List Item)) → level ≤ 25 → EntrySound entry level → BlockSound (blockBy src l entry) level
   unfolding blockBy
-  block-sound level entry h i o l q s s′ f =
-      let a = first (read file ochk o) _ f in
-      let v = first (runBy file prefix one entry 4097 (o + l - 4) (a .next) s) _ (a .then) in
-      let t = skipped o l (v .next) q (v .value) s′ (v .then) in
-      let r = run-sound level entry i 4097 (o + l - 4) (a .next) (v .next) s (v .value) (v .first) in (
-        h,
-        subst (λ (x : Walked). Grown (Block file prefix One level o l) s x) (t .0)
-            (block-of level o l (a .next) (v .next) s (v .value) (formats.sound file ochk o (a .next) tt (a .first)) (t .1) r),
-      )
+  block-sound level entry h i o n q s xs b f =
+      let a = first (begun (s .entries) (read (src .file) ochk o)) _ f in
+      let v = first (runBy src l entry (suc (l .entries)) (o + n - 4) (a .next) s) _ (a .then) in
+      let t = first (begun (counted s (v .value) .entries) (read (src .file) (blockEnd (src .sum) o (o + n) (v .next)) (v .next))) _ (v .then) in
+      let r = run-sound level entry i (suc (l .entries)) (o + n - 4) (a .next) (v .next) s (v .value) b (v .first) in
+      let c : v .value ≡ xs = cc (t .then) in
+      let signed = formats.sound (src .file) ochk o (a .next) tt (was-found _ _ (a .first)) in
+      let closed = formats.sound (src .file) (blockEnd (src .sum) o (o + n) (v .next)) (v .next) (t .next) tt (was-found _ _ (t .first)) in
+      (h, subst (Fitting (Block src level o n) s) c (is-block (t .next) signed (r .0) closed, r .1))
 
-  kept : (level p m q : ℕ) (s s′ : Walked) (r : Message) → s .entries < 4096 → One p m (message r) → keep file prefix one s r m ≡ found s′ q → Grown (Entry file prefix One level p q) s s′
-  unfolding keep
-  kept level p m q s s′ r n h f =
-      let a = passed (ltb (s .rows) (length (s .table) / 10)) _ _ f in
-      let e : m ≡ q = cc in
-      let room : s .rows < length (s .table) / 10 = ltb-true _ _ (a .0) in
-      record {
-        items = record { from = p; upto = q; held = message r } ∷ [];
-        stands = is-message (subst (λ (x : ℕ). One p x (message r)) e h);
-        grew = record { state = sym (cc); begun = λ b. omega arith; room = λ b. omega arith };
-      }
-
-  opened : (level p m q o l : ℕ) (s s₁ s′ : Walked) → s .entries < 4096 → One p m (continuation o l) → level < 25
-      → Grown (Block file prefix One (suc level) o l) (begun s) s₁
-      → _≡_ {A = Out Walked} (found s₁ m) (found s′ q) → Grown (Entry file prefix One level p q) s s′
-  opened level p m q o l s s₁ s′ n h g b f =
-      let e : m ≡ q = cc in
-      let d : s₁ ≡ s′ = cc in
-      record {
-        items = record { from = p; upto = q; held = continuation o l } ∷ b .items;
-        stands = is-continuation (subst (λ (x : ℕ). One p x (continuation o l)) e h) g (b .stands);
-        grew = record {
-          state = sym d ∙ b .grew .state ∙ state≡ (omega arith) refl refl;
-          begun = λ t. omega (arith, b .grew .begun (omega arith));
-          room = λ t. b .grew .room t;
-        };
-      }
-
-  hold-sound : (level p m q : ℕ) (block : Walked → ℕ → ℕ → Out Walked) → BlockSound block (suc level) → (s s′ : Walked) (x : Held) → s .entries < 4096 → One p m x → hold file prefix one block s x m ≡ found s′ q → Grown (Entry file prefix One level p q) s s′
+  hold-sound : (level p m q : ℕ) (block : Count → ℕ → ℕ → Went (List Item)) → BlockSound block (suc level) → (s : Count) (xs : List Item) (x : Held) → s .entries < l .entries → One src p m x
+      → hold src l block s p x m ≡ reached xs q → Fitting (Entry src level p q) s xs
   unfolding hold
-  hold-sound level p m q block i s s′ (message r) n h f = kept level p m q s s′ r n h f
-  hold-sound level p m q block i s s′ (continuation o l) n h f =
-      let v = first (block (begun s) o l) _ f in
-      let b = i o l (v .next) _ (v .value) (v .first) in
-      opened level p m q o l s (v .value) s′ n h (b .0) (b .1) (v .then)
+  hold-sound level p m q block i s xs (message r) b h f =
+      let a = passed (l .fits (s .rows)) _ _ _ f in
+      let d : m ≡ q = cc (a .1) in
+      let c : item p m (message r) ∷ [] ≡ xs = cc (a .1) in
+      subst₂ (λ (x : ℕ) (ys : List Item). Fitting (Entry src level p x) s ys) d c
+      (is-message h, record { few = omega arith; room = λ i u v. let z : s .rows ≡ i = omega arith in subst (λ (y : ℕ). l .fits y ≡ true) z (a .0) })
+  hold-sound level p m q block i s xs (continuation o n) b h f =
+      let v = first (block (opened s) o n) _ f in
+      let k = i o n (v .next) (opened s) (v .value) (omega arith) (v .first) in
+      let d : m ≡ q = cc (v .then) in
+      let c : item p m (continuation o n) ∷ v .value ≡ xs = cc (v .then) in
+      let w = k .1 .1 in
+      subst₂ (λ (x : ℕ) (ys : List Item). Fitting (Entry src level p x) s ys) d c
+      (is-continuation h (k .0) (k .1 .0), record { few = omega (arith, w .few); room = λ i a b. w .room i a b })
 
-  entryBy-sound : (level : ℕ) (block : Walked → ℕ → ℕ → Out Walked) → BlockSound block (suc level) → EntrySound (entryBy file prefix one block) level
+  entryBy-sound : (level : ℕ) (block : Count → ℕ → ℕ → Went (List Item)) → BlockSound block (suc level) → EntrySound (entryBy src l block) level
   unfolding entryBy
-  entryBy-sound level block i p q s s′ f =
-      let a = passed (ltb (s .entries) 4096) _ _ f in
-      let v = first (one p) _ (a .1) in
-      hold-sound level p (v .next) q block i s s′ (v .value) (ltb-true _ _ (a .0)) (one-sound p (v .next) (v .value) (v .first)) (v .then)
+  entryBy-sound level block i p q s xs b f =
+      let a = passed (ltb (s .entries) (l .entries)) _ _ _ f in
+      let v = first (begun (s .entries + 1) (read (src .file) (src .entry) p)) _ (a .1) in
+      hold-sound level p (v .next) q block i s xs (v .value) (ltb-true _ _ (a .0)) (formats.sound (src .file) (src .entry) p (v .next) (v .value) (was-found _ _ (v .first))) (v .then)
 
-  pub entry-sound : (levels level : ℕ) → levels + level ≡ 25 → EntrySound (entryAt file prefix one levels) level
+  pub entry-sound : (levels level : ℕ) → levels + level ≡ 25 → EntrySound (entryAt src l levels) level
   unfolding entryAt
-  entry-sound zero level h = entryBy-sound level (λ s o l. refused 21) (λ o l q s s′ f. never f)
-  entry-sound (suc levels) level h = entryBy-sound level (blockBy file prefix one (entryAt file prefix one levels)) (block-sound (suc level) (entryAt file prefix one levels) (omega arith) (entry-sound levels (suc level) (omega arith)))
+  entry-sound zero level h = entryBy-sound level (λ s o n. stopped 21 (s .entries)) (λ o n q s xs b f. never f)
+  entry-sound (suc levels) level h = entryBy-sound level (blockBy src l (entryAt src l levels)) (block-sound (suc level) (entryAt src l levels) (omega arith) (entry-sound levels (suc level) (omega arith)))
 
-  pub runAt-sound : (levels level : ℕ) → levels + level ≡ 25 → RunSound (runAt file prefix one levels) level
+  pub runAt-sound : (levels level : ℕ) → levels + level ≡ 25 → RunSound (runAt src l levels) level
   unfolding runAt
-  runAt-sound levels level h = run-sound level (entryAt file prefix one levels) (entry-sound levels level h) 4097
+  runAt-sound levels level h = run-sound level (entryAt src l levels) (entry-sound levels level h) (suc (l .entries))

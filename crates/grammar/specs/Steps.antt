@@ -1,77 +1,52 @@
--- The definition, a step at a time: what each of its parts gives, by how its tests come out. Assumes nothing.
-use Prim.Native.Nat.{ℕ, suc, _+_, _-_, _/_, _≤_, _<_}
+-- The definition one step at a time: by how its tests come out, each of its parts is what follows. Assumes nothing.
+use Prim.Native.Nat.{ℕ, suc, _+_, _-_, _≤_, _<_}
 use mathlib.Core.Path.{_≡_, _∙_}
-use mathlib.Core.List.{List}
-use lib.ListN.{length}
-use borrow.Author.Tests.{le-leb, lt-leb, lt-ltb, le-ltb}
-use Rattle.format.specs.Format.{Out, found, refused, read}
+use mathlib.Core.Bool.{true}
+use mathlib.Core.List.{List, [], _∷_, _++_}
+use borrow.Author.Tests.{le-leb, lt-leb, lt-ltb}
+use Rattle.format.specs.Format.{found, read}
 use Rattle.grammar.specs.Message.{Message, Held, message, continuation}
-use Rattle.grammar.specs.Grammar.{ochk}
-use Rattle.grammar.specs.Walk.{Walked, begun, filled, keep, hold, entryBy, runBy, blockBy}
-use Rattle.grammar.specs.WalkLaws.{choose-yes, choose-no, andThen-found, andThen-refused}
+use Rattle.grammar.specs.Grammar.{Source, Item, item, ochk, blockEnd}
+use Rattle.grammar.specs.Walk.{Went, reached, stopped, andThen, Count, counted, opened, Limits, hold, entryBy, runBy, blockBy}
+use Rattle.grammar.specs.WalkLaws.{choose-yes, choose-no, then-reached, then-stopped, found-then}
 
-module _ (file : List ℕ) (prefix : ℕ) (one : ℕ → Out Held) where
-  module _ (entry : ℕ → Walked → Out Walked) (turns e p : ℕ) (s : Walked) where
-    pub run-ends : e < p + prefix → runBy file prefix one entry (suc turns) e p s ≡ found s p
+-- items before those that are reached
+abbrev pub before : List Item → Went (List Item) → Went (List Item)
+before xs o = andThen o (λ ys q. reached (xs ++ ys) q)
+
+module _ (src : Source) (l : Limits) where
+  module _ (entry : ℕ → Count → Went (List Item)) (turns e p : ℕ) (s : Count) where
+    pub run-ends : e < p + src .prefix → runBy src l entry (suc turns) e p s ≡ reached [] p
     unfolding runBy
     run-ends h = choose-no _ _ (lt-leb _ _ h)
 
-    pub run-goes : (m : ℕ) (s₁ : Walked) → p + prefix ≤ e → entry p s ≡ found s₁ m → runBy file prefix one entry (suc turns) e p s ≡ runBy file prefix one entry turns e m s₁
+    pub run-goes : (m : ℕ) (xs : List Item) → p + src .prefix ≤ e → entry p s ≡ reached xs m → runBy src l entry (suc turns) e p s ≡ before xs (runBy src l entry turns e m (counted s xs))
     unfolding runBy
-    run-goes m s₁ h f = choose-yes _ _ (le-leb _ _ h) ∙ andThen-found _ f
+    run-goes m xs h f = choose-yes _ _ (le-leb _ _ h) ∙ then-reached _ f
 
-    pub run-stops : (n : ℕ) → p + prefix ≤ e → entry p s ≡ refused n → runBy file prefix one entry (suc turns) e p s ≡ refused n
+    pub run-stops : (r n : ℕ) → p + src .prefix ≤ e → entry p s ≡ stopped r n → runBy src l entry (suc turns) e p s ≡ stopped r n
     unfolding runBy
-    run-stops n h f = choose-yes _ _ (le-leb _ _ h) ∙ andThen-refused _ f
+    run-stops r n h f = choose-yes _ _ (le-leb _ _ h) ∙ then-stopped _ f
 
-  module _ (block : Walked → ℕ → ℕ → Out Walked) (p : ℕ) (s : Walked) where
-    pub entry-many : 4096 ≤ s .entries → entryBy file prefix one block p s ≡ refused 23
-    unfolding entryBy
-    entry-many h = choose-no _ _ (le-ltb _ _ h)
+  module _ (block : Count → ℕ → ℕ → Went (List Item)) (p : ℕ) (s : Count) where
+    module _ (h : s .entries < l .entries) where
+      pub entry-own : (x : Held) (q : ℕ) → read (src .file) (src .entry) p ≡ found x q → entryBy src l block p s ≡ hold src l block s p x q
+      unfolding entryBy
+      entry-own x q f = choose-yes _ _ (lt-ltb _ _ h) ∙ found-then _ _ f
 
-    pub entry-refused : (n : ℕ) → s .entries < 4096 → one p ≡ refused n → entryBy file prefix one block p s ≡ refused n
-    unfolding entryBy
-    entry-refused n h f = choose-yes _ _ (lt-ltb _ _ h) ∙ andThen-refused _ f
+      module _ (m : Message) (q : ℕ) (f : read (src .file) (src .entry) p ≡ found (message m) q) where
+        pub entry-kept : l .fits (s .rows) ≡ true → entryBy src l block p s ≡ reached (item p q (message m) ∷ []) q
+        unfolding hold
+        entry-kept i = entry-own (message m) q f ∙ choose-yes _ _ i
 
-    entry-own : (x : Held) (q : ℕ) → s .entries < 4096 → one p ≡ found x q → entryBy file prefix one block p s ≡ hold file prefix one block s x q
-    unfolding entryBy
-    entry-own x q h f = choose-yes _ _ (lt-ltb _ _ h) ∙ andThen-found _ f
+      module _ (o n q : ℕ) (f : read (src .file) (src .entry) p ≡ found (continuation o n) q) where
+        pub entry-opened : (m : ℕ) (xs : List Item) → block (opened s) o n ≡ reached xs m → entryBy src l block p s ≡ reached (item p q (continuation o n) ∷ xs) q
+        unfolding hold
+        entry-opened m xs i = entry-own (continuation o n) q f ∙ then-reached _ i
 
-    pub entry-kept : (r : Message) (q : ℕ) → s .entries < 4096 → one p ≡ found (message r) q → s .rows < length (s .table) / 10 → entryBy file prefix one block p s ≡ found (filled s r) q
-    unfolding hold keep
-    entry-kept r q h f g = entry-own (message r) q h f ∙ choose-yes _ _ (lt-ltb _ _ g)
-
-    pub entry-full : (r : Message) (q : ℕ) → s .entries < 4096 → one p ≡ found (message r) q → length (s .table) / 10 ≤ s .rows → entryBy file prefix one block p s ≡ refused 24
-    unfolding hold keep
-    entry-full r q h f g = entry-own (message r) q h f ∙ choose-no _ _ (le-ltb _ _ g)
-
-    pub entry-opened : (o l q m : ℕ) (s₁ : Walked) → s .entries < 4096 → one p ≡ found (continuation o l) q → block (begun s) o l ≡ found s₁ m → entryBy file prefix one block p s ≡ found s₁ q
-    unfolding hold
-    entry-opened o l q m s₁ h f g = entry-own (continuation o l) q h f ∙ andThen-found _ g
-
-    pub entry-unopened : (o l q n : ℕ) → s .entries < 4096 → one p ≡ found (continuation o l) q → block (begun s) o l ≡ refused n → entryBy file prefix one block p s ≡ refused n
-    unfolding hold
-    entry-unopened o l q n h f g = entry-own (continuation o l) q h f ∙ andThen-refused _ g
-
-  module _ (entry : ℕ → Walked → Out Walked) (s : Walked) (o l : ℕ) where
-    pub block-unsigned : (n : ℕ) → read file ochk o ≡ refused n → blockBy file prefix one entry s o l ≡ refused n
-    unfolding blockBy
-    block-unsigned n h = andThen-refused _ h
-
-    module _ (start : ℕ) (h : read file ochk o ≡ found tt start) where
-      pub block-stops : (n : ℕ) → runBy file prefix one entry 4097 (o + l - 4) start s ≡ refused n → blockBy file prefix one entry s o l ≡ refused n
-      unfolding blockBy
-      block-stops n f = andThen-found _ h ∙ andThen-refused _ f
-
-      module _ (q : ℕ) (s₁ : Walked) (f : runBy file prefix one entry 4097 (o + l - 4) start s ≡ found s₁ q) where
-        pub block-whole : o + l ≤ q → blockBy file prefix one entry s o l ≡ found s₁ q
+  module _ (entry : ℕ → Count → Went (List Item)) (s : Count) (o n : ℕ) where
+    module _ (start : ℕ) (h : read (src .file) ochk o ≡ found tt start) where
+      module _ (q : ℕ) (xs : List Item) (f : runBy src l entry (suc (l .entries)) (o + n - 4) start s ≡ reached xs q) where
+        pub block-closed : (m : ℕ) → read (src .file) (blockEnd (src .sum) o (o + n) q) q ≡ found tt m → blockBy src l entry s o n ≡ reached xs m
         unfolding blockBy
-        block-whole g = andThen-found _ h ∙ andThen-found _ f ∙ choose-yes _ _ (le-leb _ _ g)
-
-        pub block-skip : q < o + l → o + l ≤ length file → blockBy file prefix one entry s o l ≡ found s₁ (o + l)
-        unfolding blockBy
-        block-skip g i = andThen-found _ h ∙ andThen-found _ f ∙ choose-no _ _ (lt-leb _ _ g) ∙ choose-yes _ _ (le-leb _ _ i)
-
-        pub block-cut : q < o + l → length file < o + l → blockBy file prefix one entry s o l ≡ refused 3
-        unfolding blockBy
-        block-cut g i = andThen-found _ h ∙ andThen-found _ f ∙ choose-no _ _ (lt-leb _ _ g) ∙ choose-no _ _ (lt-leb _ _ i)
+        block-closed m i = found-then _ _ h ∙ then-reached _ f ∙ found-then _ _ i

@@ -1,67 +1,37 @@
--- The definition accepts exactly what has a reading within the limits, with that reading's end, count and rows. Assumes nothing.
-use Prim.Native.Nat.{ℕ, _+_, _-_, _*_, _≤_, max}
-use mathlib.Core.Path.{_≡_, refl, sym, ap, ap₂, _∙_, subst}
-use mathlib.Core.List.{List, _++_}
+-- The definition accepts exactly what has a reading within the limits, with that reading's end and items: it is sound and complete.
+-- Assumes nothing.
+use Prim.Native.Nat.{ℕ, suc, _-_}
+use mathlib.Core.Path.{_≡_, refl, _∙_, subst₂}
+use mathlib.Core.List.{List}
 use mathlib.Core.Logic.{_↔_}
 use native.Mathlib.Omega.{arith}
-use lib.ListN.{length, drop}
-use lib.Dec.{leb}
-use borrow.Author.Tests.{le-leb, leb-true}
-use Rattle.format.specs.Format.{Out, found}
-use Rattle.grammar.specs.Message.{Held}
-use Rattle.grammar.specs.Grammar.{Item, Reading}
-use Rattle.grammar.specs.Table.{encode, messagesOf, messages}
-use Rattle.grammar.specs.TableLaws.{putAll-eq}
-use Rattle.grammar.specs.Walk.{Walked, runAt, walk}
-use Rattle.grammar.specs.WalkLaws.{passed, first, choose-yes, andThen-found, after, state≡}
+use lib.ListN.{length}
+use Rattle.format.specs.Format.{read}
+use Rattle.format.specs.Laws as formats
+use Rattle.grammar.specs.Grammar.{Source, Item, headerEnd, Reading}
+use Rattle.grammar.specs.Walk.{reached, begun, Limits, start, runAt, walk}
+use Rattle.grammar.specs.WalkLaws.{first, was-found, then-reached, found-then, Fit}
 use Rattle.grammar.specs.Sound.{runAt-sound}
 use Rattle.grammar.specs.Complete.{run-complete}
 
--- a reading within the limits, with its end, and in s its counts of entries and of messages, and what the table t holds after it: the rows, then the rest untouched
-pub record Read (file : List ℕ) (prefix : ℕ) (One : ℕ → ℕ → Held → Type 0) (p e : ℕ) (t : List ℕ) (next : ℕ) (s : Walked) : Type 0 where
-  pub items : List Item
-  pub reading : Reading file prefix One p e next items
-  pub few : length items ≤ 4096
-  pub room : messages items * 10 ≤ length t
-  pub entries : s .entries ≡ length items
-  pub rows : s .rows ≡ messages items
-  pub table : s .table ≡ encode (messagesOf items) ++ drop (messages items * 10) t
-
-abbrev pub start : List ℕ → Walked
-start t = record { entries = 0; rows = 0; table = t }
-
-module _ (file : List ℕ) (prefix : ℕ) (One : ℕ → ℕ → Held → Type 0) (one : ℕ → Out Held)
-    (one-sound : (p q : ℕ) (x : Held) → one p ≡ found x q → One p q x)
-    (one-complete : (p q : ℕ) (x : Held) → One p q x → one p ≡ found x q) where
-  pub sound : (p e : ℕ) (t : List ℕ) (next : ℕ) (s : Walked) → walk file prefix one e p t ≡ found s next → Read file prefix One p e t next s
+module _ (src : Source) (l : Limits) where
+  pub sound : (o p e next : ℕ) (xs : List Item) → walk src l o e p ≡ reached xs next → Reading src o p e next xs × Fit l start xs
   unfolding walk
-  sound p e t next s f =
-      let v = first (runAt file prefix one 25 e p (start t)) _ f in
-      let a = passed (leb (max (v .next) e + 4) (length file)) _ _ (v .then) in
-      let eq : v .value ≡ s = cc (a .1) in
-      let en : max (v .next) e + 4 ≡ next = cc (a .1) in
-      let g = runAt-sound file prefix One one one-sound 25 0 refl e p (v .next) (start t) (v .value) (v .first) in
-      let gr = g .grew in
-      let st : s ≡ after (start t) (g .items) = sym eq ∙ gr .state in
-      record {
-        items = g .items;
-        reading = record { last = v .next; run = g .stands; close = sym en; inside = subst (λ (n : ℕ). n ≤ length file) en (leb-true _ _ (a .0)) };
-        few = omega (arith, gr .begun (omega arith));
-        room = omega (arith, gr .room (omega arith));
-        entries = ap (λ (x : Walked). x .entries) st ∙ omega arith;
-        rows = ap (λ (x : Walked). x .rows) st ∙ omega arith;
-        table = ap (λ (x : Walked). x .table) st ∙ putAll-eq (messagesOf (g .items)) t (omega (arith, gr .room (omega arith)));
-      }
+  sound o p e next xs f =
+      let v = first (runAt src l 25 e p start) _ f in
+      let a = first (begun (length (v .value)) (read (src .file) (headerEnd (src .sum) o e (v .next)) (v .next))) _ (v .then) in
+      let r = runAt-sound src l 25 0 refl e p (v .next) start (v .value) (omega arith) (v .first) in
+      let closed = formats.sound (src .file) (headerEnd (src .sum) o e (v .next)) (v .next) (a .next) tt (was-found _ _ (a .first)) in
+      let d : a .next ≡ next = cc (a .then) in
+      let c : v .value ≡ xs = cc (a .then) in
+      subst₂ (λ (m : ℕ) (ys : List Item). Reading src o p e m ys × Fit l start ys) d c (record { last = v .next; run = r .0; close = closed }, r .1)
 
-  pub complete : (p e : ℕ) (t : List ℕ) (next : ℕ) (s : Walked) → Read file prefix One p e t next s → walk file prefix one e p t ≡ found s next
+  pub complete : (o p e next : ℕ) (xs : List Item) → Reading src o p e next xs × Fit l start xs → walk src l o e p ≡ reached xs next
   unfolding walk runAt
-  complete p e t next s r =
-      let d = r .reading in
-      let st : after (start t) (r .items) ≡ s = state≡ (omega (arith, r .entries)) (omega (arith, r .rows)) (putAll-eq (messagesOf (r .items)) t (r .room) ∙ sym (r .table)) in
-      let fits : max (d .last) e + 4 ≤ length file = subst (λ (n : ℕ). n ≤ length file) (d .close) (d .inside) in
-      andThen-found _ (run-complete file prefix One one one-complete (d .run) 25 4097 (start t) refl (omega arith) (record { few = omega (arith, r .few); room = omega (arith, r .room) }))
-      ∙ choose-yes _ _ (le-leb _ _ fits)
-      ∙ ap₂ (λ (x : Walked) (y : ℕ). found x y) st (sym (d .close))
+  complete o p e next xs r =
+      let d = r .0 in
+      then-reached _ (run-complete src l (d .run) 25 (suc (l .entries)) start refl (omega arith) (r .1))
+      ∙ found-then _ _ (formats.complete (src .file) (headerEnd (src .sum) o e (d .last)) (d .last) next tt (d .close))
 
-  pub accepts : (p e : ℕ) (t : List ℕ) (next : ℕ) (s : Walked) → (walk file prefix one e p t ≡ found s next) ↔ Read file prefix One p e t next s
-  accepts p e t next s = (sound p e t next s, complete p e t next s)
+  pub accepts : (o p e next : ℕ) (xs : List Item) → (walk src l o e p ≡ reached xs next) ↔ (Reading src o p e next xs × Fit l start xs)
+  accepts o p e next xs = (sound o p e next xs, complete o p e next xs)

@@ -1,81 +1,103 @@
--- What walking a header's run of entries gives, and with which number each refusal comes. Assumes nothing: these are definitions.
-use Prim.Native.Nat.{ℕ, zero, suc, _+_, _-_, _/_, max}
+-- What walking a header's run of entries gives: what stands in it, in the reading's order, or a refusal with its number and the entries begun.
+-- Rows, counts and the table are told from the items. Assumes nothing: these are definitions.
+use Prim.Native.Nat.{ℕ, zero, suc, _+_, _-_}
 use mathlib.Core.Bool.{Bool, true, false}
-use mathlib.Core.List.{List}
+use mathlib.Core.List.{List, [], _∷_, _++_}
 use lib.ListN.{length}
 use lib.Dec.{leb, ltb}
 use Rattle.format.specs.Format.{Out, found, refused, read}
-use Rattle.grammar.specs.Message.{Message, Held, message, continuation}
-use Rattle.grammar.specs.Grammar.{ochk, blockLevels}
-use Rattle.grammar.specs.Table.{rowWords, put}
-
--- how far a walk has come: entries begun, rows filled, the table
-pub record Walked : Type 0 where
-  pub entries : ℕ
-  pub rows : ℕ
-  pub table : List ℕ
+use Rattle.grammar.specs.Message.{Held, message, continuation}
+use Rattle.grammar.specs.Grammar.{Source, Item, item, ochk, blockLevels, blockEnd, headerEnd}
+use Rattle.grammar.specs.Table.{messages}
 
 -- the second or the third, which wait until they are asked
 abbrev pub choose : {A : Type 0} → Bool → (Unit {0} → A) → (Unit {0} → A) → A
 choose true a b = a tt
 choose false a b = b tt
 
--- what follows where something is found
-abbrev pub andThen : {A B : Type 0} → Out A → (A → ℕ → Out B) → Out B
-andThen (found a q) k = k a q
-andThen (refused n) k = refused n
+-- Something and the position after it, or the number of a refusal and how many entries were begun.
+pub data Went (A : Type 0) : Type 0 where
+  reached : A → ℕ → Went A
+  stopped : ℕ → ℕ → Went A
 
--- one entry more was begun
-abbrev pub begun : Walked → Walked
-begun s = record { entries = s .entries + 1; rows = s .rows; table = s .table }
+-- what follows where something is reached
+abbrev pub andThen : {A B : Type 0} → Went A → (A → ℕ → Went B) → Went B
+andThen (reached a q) k = k a q
+andThen (stopped r n) k = stopped r n
 
--- and it filled a row
-abbrev pub filled : Walked → Message → Walked
-filled s m = record { entries = s .entries + 1; rows = s .rows + 1; table = put (s .table) (s .rows) m }
+-- what is read where n entries are begun
+abbrev pub begun : {A : Type 0} → ℕ → Out A → Went A
+begun n (found a q) = reached a q
+begun n (refused r) = stopped r n
+
+-- the entries begun and the rows taken before a place of the walk
+pub record Count : Type 0 where
+  pub entries : ℕ
+  pub rows : ℕ
+
+-- after items, and after a continuation's own entry
+abbrev pub counted : Count → List Item → Count
+counted s xs = record { entries = s .entries + length xs; rows = s .rows + messages xs }
+
+abbrev pub opened : Count → Count
+opened s = record { entries = s .entries + 1; rows = s .rows }
+
+-- how many entries are allowed, the number of the refusal of the next, and which rows there are
+pub record Limits : Type 0 where
+  pub entries : ℕ
+  pub beyond : ℕ
+  pub fits : ℕ → Bool
 
 -- entries that are allowed
 abbrev pub entryLimit : ℕ
 entryLimit = 4096
 
--- over a file, a prefix's bytes, and what reading one entry by itself gives
-module _ (file : List ℕ) (prefix : ℕ) (one : ℕ → Out Held) where
-  -- a message goes into the next row; where there is none, 24, after its entry
-  unfoldable pub keep : Walked → Message → ℕ → Out Walked
-  keep s m q = choose (ltb (s .rows) (length (s .table) / rowWords)) (λ _. found (filled s m) q) (λ _. refused 24)
+-- the limits of a table with so many rows: the 4,097th entry is 23
+abbrev pub lent : ℕ → Limits
+lent rows = record { entries = entryLimit; beyond = 23; fits = λ i. ltb i rows }
 
-  -- an entry that was read by itself, and the block that a continuation opens; reading resumes after the entry
-  unfoldable pub hold : (Walked → ℕ → ℕ → Out Walked) → Walked → Held → ℕ → Out Walked
-  hold block s (message m) q = keep s m q
-  hold block s (continuation o l) q = andThen (block (begun s) o l) (λ s′ _. found s′ q)
+-- no entry begun, no row taken
+abbrev pub start : Count
+start = record { entries = 0; rows = 0 }
 
-  -- an entry at p; the 4,097th is 23, before its first byte
-  unfoldable pub entryBy : (Walked → ℕ → ℕ → Out Walked) → ℕ → Walked → Out Walked
-  entryBy block p s = choose (ltb (s .entries) entryLimit) (λ _. andThen (one p) (hold block s)) (λ _. refused 23)
+module _ (src : Source) (l : Limits) where
+  -- What an entry holds that stands from p to q. A message takes the next row; where there is none, 24, after its entry.
+  -- A continuation opens its block; reading resumes after the entry.
+  unfoldable pub hold : (Count → ℕ → ℕ → Went (List Item)) → Count → ℕ → Held → ℕ → Went (List Item)
+  hold block s p (message m) q = choose (l .fits (s .rows)) (λ _. reached (item p q (message m) ∷ []) q) (λ _. stopped 24 (s .entries + 1))
+  hold block s p (continuation o n) q = andThen (block (opened s) o n) (λ xs _. reached (item p q (continuation o n) ∷ xs) q)
+
+  -- an entry at p; one beyond the limit is refused before its first byte
+  unfoldable pub entryBy : (Count → ℕ → ℕ → Went (List Item)) → ℕ → Count → Went (List Item)
+  entryBy block p s = choose (ltb (s .entries) (l .entries)) (λ _. andThen (begun (s .entries + 1) (read (src .file) (src .entry) p)) (hold block s p)) (λ _. stopped (l .beyond) (s .entries))
 
   -- entries from p while position plus prefix is at most e; there are always turns enough
-  unfoldable pub runBy : (ℕ → Walked → Out Walked) → ℕ → ℕ → ℕ → Walked → Out Walked
-  runBy entry zero e p s = refused 23
-  runBy entry (suc turns) e p s = choose (leb (p + prefix) e) (λ _. andThen (entry p s) (λ s′ m. runBy entry turns e m s′)) (λ _. found s p)
+  unfoldable pub runBy : (ℕ → Count → Went (List Item)) → ℕ → ℕ → ℕ → Count → Went (List Item)
+  runBy entry zero e p s = stopped (l .beyond) (s .entries)
+  runBy entry (suc turns) e p s =
+      choose (leb (p + src .prefix) e) (λ _.
+      andThen (entry p s) (λ xs m.
+      andThen (runBy entry turns e m (counted s xs)) (λ ys q. reached (xs ++ ys) q)))
+      (λ _. reached [] p)
 
-  -- a block of l bytes at o: `OCHK`, entries within o + l − 4, then a skip to o + l if not yet there
-  unfoldable pub blockBy : (ℕ → Walked → Out Walked) → Walked → ℕ → ℕ → Out Walked
-  blockBy entry s o l =
-      andThen (read file ochk o) (λ _ start.
-      andThen (runBy entry (suc entryLimit) (o + l - 4) start s) (λ s′ q.
-      choose (leb (o + l) q) (λ _. found s′ q) (λ _.
-      choose (leb (o + l) (length file)) (λ _. found s′ (o + l)) (λ _. refused 3))))
+  -- a block of n bytes at o: `OCHK`, entries within o + n − 4, and what closes it
+  unfoldable pub blockBy : (ℕ → Count → Went (List Item)) → Count → ℕ → ℕ → Went (List Item)
+  blockBy entry s o n =
+      andThen (begun (s .entries) (read (src .file) ochk o)) (λ _ first.
+      andThen (runBy entry (suc (l .entries)) (o + n - 4) first s) (λ xs q.
+      andThen (begun (counted s xs .entries) (read (src .file) (blockEnd (src .sum) o (o + n) q) q)) (λ _ m. reached xs m)))
 
   -- an entry at p, where so many more levels of blocks are allowed; the next is 21
-  unfoldable pub entryAt : ℕ → ℕ → Walked → Out Walked
-  entryAt zero = entryBy (λ s o l. refused 21)
+  unfoldable pub entryAt : ℕ → ℕ → Count → Went (List Item)
+  entryAt zero = entryBy (λ s o n. stopped 21 (s .entries))
   entryAt (suc levels) = entryBy (blockBy (entryAt levels))
 
   -- a run within e from p, where so many more levels are allowed
-  unfoldable pub runAt : ℕ → ℕ → ℕ → Walked → Out Walked
-  runAt levels e p s = runBy (entryAt levels) (suc entryLimit) e p s
+  unfoldable pub runAt : ℕ → ℕ → ℕ → Count → Went (List Item)
+  runAt levels e p s = runBy (entryAt levels) (suc (l .entries)) e p s
 
-  -- a header's run from p within e, the gap up to e, and 4 bytes
-  unfoldable pub walk : ℕ → ℕ → List ℕ → Out Walked
-  walk e p t =
-      andThen (runAt blockLevels e p (record { entries = 0; rows = 0; table = t })) (λ s q.
-      choose (leb (max q e + 4) (length file)) (λ _. found s (max q e + 4)) (λ _. refused 3))
+  -- in a header at o, its run from p within e, and what closes it
+  unfoldable pub walk : ℕ → ℕ → ℕ → Went (List Item)
+  walk o e p =
+      andThen (runAt blockLevels e p start) (λ xs q.
+      andThen (begun (length xs) (read (src .file) (headerEnd (src .sum) o e q) q)) (λ _ m. reached xs m))

@@ -1,19 +1,18 @@
--- Choices, what follows a find, and how a state grows. Assumes nothing.
-use Prim.Native.Nat.{ℕ, _+_, _-_, _*_, _≤_}
-use mathlib.Core.Path.{_≡_, refl, sym, ap, _∙_}
+-- Choices, what follows a find, and items within limits: each case by itself. Assumes nothing.
+use Prim.Native.Nat.{ℕ, zero, suc, _+_, _-_, _≤_, _<_}
+use mathlib.Core.Path.{_≡_, refl, ap}
 use mathlib.Core.Bool.{Bool, true, false}
-use mathlib.Core.Logic.{_⊎_, inl, inr}
+use mathlib.Core.Logic.{_⊎_, inl, inr, _↔_}
 use mathlib.Core.List.{List, [], _++_}
 use native.Mathlib.Omega.{arith}
 use lib.ListN.{length, length-append}
+use lib.Dec.{ltb}
+use borrow.Author.Tests.{ltb-true, ltb-false, lt-ltb}
 use Rattle.format.specs.Format.{Out, found, refused}
 use Rattle.grammar.specs.Grammar.{Item}
-use Rattle.grammar.specs.Table.{putAll, messagesOf, messages}
-use Rattle.grammar.specs.TableLaws.{putAll-append, length-putAll, messagesOf-append, messages-append}
-use Rattle.grammar.specs.Walk.{Walked, choose, andThen}
-
-pub never : {A : Type 0} {P : Type 0} {n : ℕ} {a : A} {q : ℕ} → _≡_ {A = Out A} (refused n) (found a q) → P
-never e = let z : _≡_ {A = ℕ} 0 1 = cc in absurd (omega arith)
+use Rattle.grammar.specs.Table.{messages}
+use Rattle.grammar.specs.TableLaws.{messages-append}
+use Rattle.grammar.specs.Walk.{choose, Went, reached, stopped, andThen, begun, Count, counted, Limits, entryLimit, lent, start}
 
 pub choose-yes : {A : Type 0} {b : Bool} (f g : Unit {0} → A) → b ≡ true → choose b f g ≡ f tt
 choose-yes f g e = ap (λ x. choose x f g) e
@@ -26,60 +25,69 @@ pub chose : {A : Type 0} {x : A} (b : Bool) (f g : Unit {0} → A) → choose b 
 chose true f g e = inl (refl, e)
 chose false f g e = inr (refl, e)
 
--- a choice between something and a refusal that found something
-pub passed : {A : Type 0} {a : A} {q : ℕ} (b : Bool) (f : Unit {0} → Out A) (n : ℕ) → choose b f (λ _. refused n) ≡ found a q → (b ≡ true) × (f tt ≡ found a q)
-passed true f n e = (refl, e)
-passed false f n e = never e
+pub never : {A : Type 0} {P : Type 0} {r n : ℕ} {a : A} {q : ℕ} → _≡_ {A = Went A} (stopped r n) (reached a q) → P
+never e = let z : _≡_ {A = ℕ} 0 1 = cc in absurd (omega arith)
 
-pub andThen-found : {A B : Type 0} {o : Out A} {a : A} {m : ℕ} (k : A → ℕ → Out B) → o ≡ found a m → andThen o k ≡ k a m
-andThen-found k e = ap (λ x. andThen x k) e
+-- a choice between something and a refusal that reached something
+pub passed : {A : Type 0} {a : A} {q : ℕ} (b : Bool) (f : Unit {0} → Went A) (r n : ℕ) → choose b f (λ _. stopped r n) ≡ reached a q → (b ≡ true) × (f tt ≡ reached a q)
+passed true f r n e = (refl, e)
+passed false f r n e = never e
 
-pub andThen-refused : {A B : Type 0} {o : Out A} {n : ℕ} (k : A → ℕ → Out B) → o ≡ refused n → andThen o k ≡ refused n
-andThen-refused k e = ap (λ x. andThen x k) e
+pub then-reached : {A B : Type 0} {o : Went A} {a : A} {m : ℕ} (k : A → ℕ → Went B) → o ≡ reached a m → andThen o k ≡ k a m
+then-reached k e = ap (λ x. andThen x k) e
 
--- what was found first, where something was found after it
-pub record First {A B : Type 0} (o : Out A) (k : A → ℕ → Out B) (b : B) (q : ℕ) : Type 0 where
+pub then-stopped : {A B : Type 0} {o : Went A} {r n : ℕ} (k : A → ℕ → Went B) → o ≡ stopped r n → andThen o k ≡ stopped r n
+then-stopped k e = ap (λ x. andThen x k) e
+
+pub found-then : {A B : Type 0} {o : Out A} {a : A} {m : ℕ} (n : ℕ) (k : A → ℕ → Went B) → o ≡ found a m → andThen (begun n o) k ≡ k a m
+found-then n k e = ap (λ x. andThen (begun n x) k) e
+
+pub refused-then : {A B : Type 0} {o : Out A} {r : ℕ} (n : ℕ) (k : A → ℕ → Went B) → o ≡ refused r → andThen (begun n o) k ≡ stopped r n
+refused-then n k e = ap (λ x. andThen (begun n x) k) e
+
+-- what was reached first, where something was reached after it
+pub record First {A B : Type 0} (o : Went A) (k : A → ℕ → Went B) (b : B) (q : ℕ) : Type 0 where
   pub value : A
   pub next : ℕ
-  pub first : o ≡ found value next
-  pub then : k value next ≡ found b q
+  pub first : o ≡ reached value next
+  pub then : k value next ≡ reached b q
 
-pub first : {A B : Type 0} {b : B} {q : ℕ} (o : Out A) (k : A → ℕ → Out B) → andThen o k ≡ found b q → First o k b q
-first (found a m) k e = record { value = a; next = m; first = refl; then = e }
-first (refused n) k e = never e
+pub first : {A B : Type 0} {b : B} {q : ℕ} (o : Went A) (k : A → ℕ → Went B) → andThen o k ≡ reached b q → First o k b q
+first (reached a m) k e = record { value = a; next = m; first = refl; then = e }
+first (stopped r n) k e = never e
 
--- the state after the items xs
-abbrev pub after : Walked → List Item → Walked
-after s xs = record { entries = s .entries + length xs; rows = s .rows + messages xs; table = putAll (s .table) (s .rows) (messagesOf xs) }
+pub was-found : {A : Type 0} {a : A} {q : ℕ} (n : ℕ) (o : Out A) → begun n o ≡ reached a q → o ≡ found a q
+was-found n (found b m) e = cc
+was-found n (refused r) e = never e
 
-pub state≡ : {e e′ r r′ : ℕ} {t t′ : List ℕ} → e ≡ e′ → r ≡ r′ → t ≡ t′
-    → _≡_ {A = Walked} (record { entries = e; rows = r; table = t }) (record { entries = e′; rows = r′; table = t′ })
-state≡ p q u = λ i. record { entries = p i; rows = q i; table = u i }
+-- the items xs fit after s: no entry too many, and a row for each message
+pub record Fit (l : Limits) (s : Count) (xs : List Item) : Type 0 where
+  pub few : s .entries + length xs ≤ l .entries
+  pub room : (i : ℕ) → s .rows ≤ i → i < s .rows + messages xs → l .fits i ≡ true
 
-pub after-none : (s : Walked) → after s [] ≡ s
-after-none s = state≡ (omega arith) (omega arith) refl
+pub fit-none : (l : Limits) (s : Count) → s .entries ≤ l .entries → Fit l s []
+fit-none l s h = record { few = omega arith; room = λ i a b. absurd (omega arith) }
 
-pub after-append : (s : Walked) (xs ys : List Item) → after (after s xs) ys ≡ after s (xs ++ ys)
-after-append s xs ys =
-    state≡ (omega (arith, length-append xs ys)) (omega (arith, messages-append xs ys))
-    (sym (putAll-append (messagesOf xs) (messagesOf ys) (s .table) (s .rows)) ∙ ap (putAll (s .table) (s .rows)) (sym (messagesOf-append xs ys)))
+pub fit-first : (l : Limits) (s : Count) (xs ys : List Item) → Fit l s (xs ++ ys) → Fit l s xs
+fit-first l s xs ys f = record { few = omega (arith, f .few, length-append xs ys); room = λ i a b. f .room i a (omega (arith, messages-append xs ys)) }
 
--- s grew to s′ by the items xs, and within the limits
-pub record Grew (s s′ : Walked) (xs : List Item) : Type 0 where
-  pub state : s′ ≡ after s xs
-  pub begun : s .entries ≤ 4096 → s .entries + length xs ≤ 4096
-  pub room : s .rows * 10 ≤ length (s .table) → (s .rows + messages xs) * 10 ≤ length (s .table)
+pub fit-second : (l : Limits) (s : Count) (xs ys : List Item) → Fit l s (xs ++ ys) → Fit l (counted s xs) ys
+fit-second l s xs ys f = record { few = omega (arith, f .few, length-append xs ys); room = λ i a b. f .room i (omega arith) (omega (arith, messages-append xs ys)) }
 
-pub grew-none : (s : Walked) → Grew s s []
-grew-none s = record { state = sym (after-none s); begun = λ h. omega arith; room = λ h. omega arith }
+pub fit-append : (l : Limits) (s : Count) (xs ys : List Item) → Fit l s xs → Fit l (counted s xs) ys → Fit l s (xs ++ ys)
+fit-append l s xs ys f g = record {
+  few = omega (arith, g .few, length-append xs ys);
+  room = λ i a b. go i a b (ltb i (s .rows + messages xs)) refl;
+}
+  where
+    go : (i : ℕ) → s .rows ≤ i → i < s .rows + messages (xs ++ ys) → (t : Bool) → ltb i (s .rows + messages xs) ≡ t → l .fits i ≡ true
+    go i a b true e = f .room i a (ltb-true _ _ e)
+    go i a b false e = g .room i (ltb-false _ _ e) (omega (arith, messages-append xs ys))
 
-pub grew-append : {s s₁ s₂ : Walked} {xs ys : List Item} → Grew s s₁ xs → Grew s₁ s₂ ys → Grew s s₂ (xs ++ ys)
-grew-append {s} {s₁} {s₂} {xs} {ys} g h =
-    let n : s₁ .entries ≡ s .entries + length xs = ap (λ (x : Walked). x .entries) (g .state) in
-    let r : s₁ .rows ≡ s .rows + messages xs = ap (λ (x : Walked). x .rows) (g .state) in
-    let t : length (s₁ .table) ≡ length (s .table) = ap (λ (x : Walked). length (x .table)) (g .state) ∙ length-putAll (s .table) (s .rows) (messagesOf xs) in
-    record {
-      state = h .state ∙ ap (λ (x : Walked). after x ys) (g .state) ∙ after-append s xs ys;
-      begun = λ b. omega (arith, g .begun b, h .begun (omega (arith, g .begun b)), length-append xs ys);
-      room = λ b. omega (arith, g .room b, h .room (omega (arith, g .room b)), messages-append xs ys);
-    }
+-- what fits a table with so many rows
+rows-below : (n k : ℕ) (xs : List Item) → messages xs ≡ k → Fit (lent n) start xs → k ≤ n
+rows-below n zero xs e f = omega arith
+rows-below n (suc k) xs e f = let h = ltb-true k n (f .room k (omega arith) (omega arith)) in omega arith
+
+pub fit-lent : (n : ℕ) (xs : List Item) → Fit (lent n) start xs ↔ ((length xs ≤ entryLimit) × (messages xs ≤ n))
+fit-lent n xs = (λ f. (omega (arith, f .few), rows-below n (messages xs) xs refl f), λ h. record { few = omega (arith, h .0); room = λ i a c. lt-ltb i n (omega (arith, h .1)) })

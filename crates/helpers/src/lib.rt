@@ -6,8 +6,9 @@ ghost use Prim.Native.Nat.{_+_, _≤_, _<_};
 ghost use lib.ListN.{length};
 ghost use lib.Dec.{leb};
 ghost use Rattle.format.specs.Bytes.{le, nameLength, textLength};
-ghost use Rattle.format.specs.Format.{done, number, skip, name, text, nothing, read};
-ghost use Rattle.helpers.specs.Answers.{u8Out, u16Out, u32Out, u64Out, varintOut, takenOut, lengthOut, sized};
+ghost use Rattle.format.specs.Format.{done, number, skip, name, text, nothing, read, signature as signed};
+ghost use Rattle.records.specs.Refusals.{refusalNumber};
+ghost use Rattle.helpers.specs.Answers.{u8Out, u16Out, u32Out, u64Out, varintOut, takenOut, placeOut, lengthOut, sized};
 
 // A number of a fixed width, and the position after it; or a field that leaves the file.
 pub enum ReadU8 {
@@ -273,4 +274,17 @@ pub fn trim_end(file: &[u8], at: usize, count: usize) -> ReadLength
     } else {
         ReadLength::Short
     }
+}
+
+// A signature: four given bytes, the lowest first. Others are refused.
+pub fn signature(file: &[u8], at: usize, mark: u32, refusal: Refusal) -> Place
+    ensures { λ r. ⌜ placeOut r ≡ read (now (file .entry)) (signed mark (refusalNumber refusal)) at ⌝ }
+{
+    let ReadU32::Value(value, next) = le_u32(file, at) else {
+        return Place::Refused(Refusal::Short);
+    };
+    if value != mark {
+        return Place::Refused(refusal);
+    }
+    Place::At(next)
 }

@@ -1,10 +1,10 @@
 -- What the answers of the readers mean. Assumes nothing: these are definitions.
 use Prim.Native.Nat.{ℕ}
-use mathlib.Core.List.{List, [], _∷_, _++_}
 use Rattle.format.specs.Format.{Out, found, refused}
 use Rattle.records.specs.Refusals.{refusalNumber}
-use Rattle.grammar.specs.Message.{Kept, Message, Held, partWords, nameOf, partOf, words}
+use Rattle.grammar.specs.Message.{Kept, Held, nameOf, partOf, rowOf}
 use Rattle.grammar.specs.Message as messages
+use Rattle.row.specs.declared.Row.{Row}
 use Rattle.ohdr_info.specs.declared.Continuation.{Continuation}
 use Rattle.ohdr_entry.specs.declared.Prefix.{Prefix}
 use Rattle.ohdr_entry.specs.declared.PrefixRead.{PrefixRead}
@@ -12,7 +12,6 @@ use Rattle.ohdr_entry.specs.declared.PrefixRead.the-variants as prefixes
 use Rattle.ohdr_entry.specs.declared.Figures.{Figures}
 use Rattle.ohdr_entry.specs.declared.BodyRead.{BodyRead}
 use Rattle.ohdr_entry.specs.declared.BodyRead.the-variants as bodies
-use Rattle.ohdr_entry.specs.declared.Row.{Row}
 use Rattle.ohdr_entry.specs.declared.EntryRead.{EntryRead}
 use Rattle.ohdr_entry.specs.declared.EntryRead.the-variants as entries
 
@@ -34,24 +33,20 @@ abbrev pub bodyOut : BodyRead → Out Figures
 bodyOut (bodies.Read f q) = found f q
 bodyOut (bodies.Refused r) = refused (refusalNumber r)
 
--- what of an entry goes on: the words of a message's row, or where a continuation leads
+-- what of an entry goes on: a message's row, or where a continuation leads
 pub data Seen : Type 0 where
-  row : List ℕ → Seen
+  row : Row → Seen
   continuation : ℕ → ℕ → Seen
 
 abbrev pub seenIn : Held → Seen
-seenIn (messages.message m) = row (words m)
+seenIn (messages.message m) = row (rowOf m)
 seenIn (messages.continuation o l) = continuation o l
 
 abbrev pub seen : Out Held → Out Seen
 seen (found h q) = found (seenIn h) q
 seen (refused n) = refused n
 
--- a row's ten words
-abbrev pub rowWords : Row → List ℕ
-rowWords r = (r .kind ∷ r .flags ∷ r .size ∷ r .body ∷ []) ++ (partWords (r .name) ++ partWords (r .part))
-
 abbrev pub entryOut : EntryRead → Out Seen
-entryOut (entries.Message r q) = found (row (rowWords r)) q
+entryOut (entries.Message r q) = found (row r) q
 entryOut (entries.Continuation c q) = found (continuation (c .offset) (c .length)) q
 entryOut (entries.Refused r) = refused (refusalNumber r)

@@ -14,7 +14,8 @@ use Rattle.format.specs.Format.{Format, pick, Stands, Out, found, refused, read
 use Rattle.format.specs.Laws.{never, sound}
 use Rattle.format.specs.Covers.{inside}
 use Rattle.format.specs.Standing.{stands-bind, stands-check}
-use Rattle.grammar.specs.Message.{Message, Held, message, continuation, words}
+use Rattle.grammar.specs.Message.{Message, Held, message, continuation, rowOf}
+use Rattle.row.specs.declared.Row.{Row}
 use Rattle.parser.specs.declared.State.{State}
 use Rattle.parser.specs.States.{addressValid}
 use Rattle.ohdr_info.specs.declared.Continuation.{Continuation}
@@ -109,15 +110,15 @@ module _ (file : List ℕ) (s : State) where
       go (keeps n e c) = let d : n ≡ m = cc in rw (sym d) c
 
 -- what was read, from what was seen of it
-pub record Rowed (o : Out Held) (ws : List ℕ) (q : ℕ) : Type 0 where
+pub record Rowed (o : Out Held) (r : Row) (q : ℕ) : Type 0 where
   pub value : Message
   pub found-it : o ≡ found (message value) q
-  pub same : words value ≡ ws
+  pub same : rowOf value ≡ r
 
-pub seen-row : (o : Out Held) (ws : List ℕ) (q : ℕ) → seen o ≡ found (row ws) q → Rowed o ws q
-seen-row (found (message m) n) ws q e = let d : n ≡ q = cc in let w : words m ≡ ws = cc in record { value = m; found-it = ap (λ (k : ℕ). found (message m) k) d; same = w }
-seen-row (found (continuation i l) n) ws q e = let z : _≡_ {A = ℕ} 0 1 = cc in absurd (omega arith)
-seen-row (refused n) ws q e = never e
+pub seen-row : (o : Out Held) (r : Row) (q : ℕ) → seen o ≡ found (row r) q → Rowed o r q
+seen-row (found (message m) n) r q e = let d : n ≡ q = cc in let w : rowOf m ≡ r = cc in record { value = m; found-it = ap (λ (k : ℕ). found (message m) k) d; same = w }
+seen-row (found (continuation i l) n) r q e = let z : _≡_ {A = ℕ} 0 1 = cc in absurd (omega arith)
+seen-row (refused n) r q e = never e
 
 pub seen-continuation : (o : Out Held) (i l q : ℕ) → seen o ≡ found (answers.continuation i l) q → o ≡ found (continuation i l) q
 seen-continuation (found (message m) n) i l q e = let z : _≡_ {A = ℕ} 0 1 = cc in absurd (omega arith)

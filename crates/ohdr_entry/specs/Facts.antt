@@ -24,7 +24,7 @@ use Rattle.ohdr_dataspace.specs.Answers.{placed}
 use Rattle.ohdr_entry.specs.declared.Prefix.{Prefix}
 use Rattle.ohdr_entry.specs.declared.Figures.{Figures}
 use Rattle.ohdr_entry.specs.Entries.{plainBody, body, messageHeld, closed}
-use Rattle.ohdr_entry.specs.Answers.{passed, figuresOf, Seen, row, seenIn, seen, rowWords}
+use Rattle.ohdr_entry.specs.Answers.{passed, figuresOf, Seen, row, seenIn, seen}
 
 -- the rest of an entry's size after its fields, by the test of the code
 module _ (b size used : ℕ) where
@@ -51,7 +51,7 @@ bare (refused n) = refused n
 
 -- the row of a message with this prefix, its body at b
 abbrev pub shown : Prefix → ℕ → Out Figures → Out Seen
-shown x b (found f q) = found (row (rowWords (record { kind = x .kind; flags = x .flags; size = x .size; body = b; name = f .name; part = f .part }))) q
+shown x b (found f q) = found (row (record { kind = x .kind; flags = x .flags; size = x .size; body = b; name = f .name; part = f .part })) q
 shown x b (refused n) = refused n
 
 -- a value, where another was found

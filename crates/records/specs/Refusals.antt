@@ -28,3 +28,4 @@ refusalNumber refusals.BlockLevel = 21
 refusalNumber refusals.TypeLevel = 22
 refusalNumber refusals.Entries = 23
 refusalNumber refusals.Table = 24
+refusalNumber refusals.Checksum = 28

@@ -54,6 +54,8 @@ pub enum Refusal {
     Entries,
     // 24: table too small
     Table,
+    // 28: checksum; no test of it fails yet
+    Checksum,
 }
 
 impl Refusal {
@@ -85,6 +87,7 @@ impl Refusal {
             Refusal::TypeLevel => 22,
             Refusal::Entries => 23,
             Refusal::Table => 24,
+            Refusal::Checksum => 28,
         }
     }
 }
