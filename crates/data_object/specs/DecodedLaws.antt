@@ -1,54 +1,69 @@
--- What the ways out of decoding say, put together. Assumes nothing.
-use Prim.Native.Nat.{ℕ, suc, _+_, _-_, _*_, _/_, _%_, _^_, _≤_, _<_}
-use mathlib.Core.Path.{_≡_, refl, sym, ap, ap₂, _∙_, subst}
-use mathlib.Core.Bool.{Bool, true, false, not, _&&_}
-use mathlib.Core.List.{List, [], _∷_, _++_, append-assoc}
+-- What the ways out of decoding say, put together: the walk's items give the answer, the rows, the table and the records. Assumes nothing.
+use Prim.Native.Nat.{ℕ, _+_, _-_, _*_, _/_, _≤_}
+use mathlib.Core.Path.{_≡_, refl, sym, ap, ap₂, _∙_}
+use mathlib.Core.List.{List, _++_}
 use native.Mathlib.Omega.{arith}
-use lib.ListN.{length, getD, take, drop, set, replicate, length-append, length-take, length-replicate, take-append-drop, replicate-append-replicate}
-use lib.Seq.{drop-cons, take-append-seam, set-at}
-use lib.Dec.{leb, eqb}
-use borrow.Author.Tests.{le-leb, lt-leb, leb-true}
-use Rattle.format.specs.Bits.{bit}
-use Rattle.format.specs.Bytes.{le}
-use Rattle.format.specs.Format.{Format, done, number, skip, check, Out, found, refused, pick, read, Stands}
-use Rattle.format.specs.Laws.{never, sound}
-use Rattle.format.specs.Covers.{inside}
-use Rattle.format.specs.Standing.{stands-bind, stands-check}
+use lib.ListN.{length, take, drop, replicate}
+use Rattle.format.specs.Format.{Format, found, read}
+use Rattle.format.specs.Laws.{never}
 use Rattle.records.specs.Refusals.{refusalNumber}
 use Rattle.records.specs.Defaults.{defaultDataSpace, defaultLinkInfo, defaultGroupInfo, defaultAttributeInfo, defaultDataType}
 use Rattle.records.specs.declared.Refusal.{Refusal}
-use Rattle.records.specs.declared.Refusal.the-variants as refusals
+use Rattle.row.specs.Rows.{rowWords, encode}
+use Rattle.row.specs.Clearing.{table, cleared-rows}
 use Rattle.parser.specs.declared.State.{State}
 use Rattle.parser.specs.declared.NewState.the-variants as states
-use Rattle.parser.specs.States.{Widths, widthAllowed, stateOf}
+use Rattle.parser.specs.States.{stateOf}
 use Rattle.parser.specs.StateLaws.{made-widths}
-use Rattle.grammar.specs.Message.{Message}
 use Rattle.grammar.specs.Grammar.{Item}
-use Rattle.grammar.specs.Table.{encode, messagesOf, messages}
-use Rattle.grammar.specs.Walk.{Walked}
-use Rattle.grammar.specs.TableLaws.{length-encode}
-use Rattle.grammar.specs.WalkLaws.{choose-yes, choose-no, andThen-found, andThen-refused, state≡}
+use Rattle.grammar.specs.Table.{messagesOf, messages, rowsOf}
+use Rattle.grammar.specs.TableLaws.{length-rowsOf}
+use Rattle.grammar.specs.Walk.{Went, reached, stopped, Limits, lent}
+use Rattle.grammar.specs.WalkLaws.{first, fit-lent}
+use Rattle.grammar.specs.Filled.{Walked, grown, tell, untold, walkOn, filled-table}
 use Rattle.ohdr_info.specs.Info.{linkInfo, groupInfo, attributeInfo}
 use Rattle.ohdr_storage.specs.Storage.{dataLayout, emptyPart}
 use Rattle.ohdr_datatype.specs.DataTypes.{dataType, typeLevels}
 use Rattle.ohdr_dataspace.specs.DataSpaces.{dataSpace}
 use Rattle.ohdr_walk.specs.declared.Progress.{Progress}
-use Rattle.ohdr_walk.specs.Code.{walkedOf, walkOf}
-use Rattle.ohdr_walk.specs.Loop.{met}
-use Rattle.data_object_records.specs.Headers.{Wins, defaults, winsOf, stateFor, ohdr, headerFields, header, decode}
-use Rattle.data_object_records.specs.HeaderLaws.{Within, tableOf, header-walks, header-sound, header-complete}
-use Rattle.data_object_records.specs.Contents.{header-refused}
-use Rattle.data_object_records.specs.HeaderLaws as headers
-use Rattle.data_object_records.specs.Answers.{fieldsOut}
-use Rattle.data_object_records.specs.declared.HeaderFields.{HeaderFields}
-use Rattle.data_object_records.specs.declared.FieldsRead.{FieldsRead}
-use Rattle.data_object_records.specs.declared.FieldsRead.the-variants as fields
-use Rattle.data_object_records.specs.Winners.{lastIn, winner}
-use Rattle.data_object_records.specs.WinnerLaws.{all-bodied, Won, won, space-won, type-won, link-won, group-won, info-won, data-won}
-use Rattle.data_object.specs.Decoded.{answerOut, counted, rowsIn, winsIn, Readable, Accepted, Meant, Decoded}
+use Rattle.ohdr_walk.specs.Code.{walkedOf}
+use Rattle.ohdr_walk.specs.Sources.{source}
+use Rattle.data_object_header.specs.Answers.{fieldsOut}
+use Rattle.data_object_header.specs.declared.HeaderFields.{HeaderFields}
+use Rattle.data_object_header.specs.declared.FieldsRead.{FieldsRead}
+use Rattle.data_object_header.specs.declared.FieldsRead.the-variants as fields
+use Rattle.data_object_header.specs.Headers.{headerFields, HeaderReading, fileLimit, header}
+use Rattle.data_object_header.specs.HeaderLaws.{header-accepts, unread, walked, starts-after, starts-inside, size-small, made, goes-on, decode-complete}
+use Rattle.data_object_winners.specs.Wins.{Wins, defaults, winsOf}
+use Rattle.data_object_winners.specs.Winners.{lastIn, winner}
+use Rattle.data_object_winners.specs.WinnerLaws.{all-bodied, Won, won, space-won, type-won, link-won, group-won, info-won, data-won}
+use Rattle.data_object.specs.Decoded.{answerOut, counts, rowsIn, winsIn, decoded, Readable, Meant, Decoded}
 use Rattle.data_object.specs.declared.Answer.{Answer}
 use Rattle.data_object.specs.declared.Answer.the-variants as answers
 use Rattle.data_object.specs.declared.DataObject.{DataObject}
+
+-- a walk that has not begun
+abbrev fresh : List ℕ → Walked
+fresh t = record { entries = 0; rows = 0; table = t }
+
+-- the limits of a table
+abbrev lentBy : List ℕ → Limits
+lentBy t = lent (length t / rowWords)
+
+-- what a header gives, told as a state: its rows go into the table
+abbrev pub headerOn : List ℕ → State → ℕ → List ℕ → Went Walked
+headerOn file s at t = tell (fresh t) (header file s (lentBy t) at)
+
+-- a header's fields, and then its messages
+module _ (file : List ℕ) (s : State) (at : ℕ) (t : List ℕ) {r : FieldsRead} (f : fieldsOut r ≡ read file headerFields at) where
+  pub fields-refused : {x : Refusal} → r ≡ fields.Refused x → stopped (refusalNumber x) 0 ≡ headerOn file s at t
+  fields-refused e = sym (ap (tell (fresh t)) (unread file s (lentBy t) at f e))
+
+  pub fields-read : {v : HeaderFields} {from : ℕ} → r ≡ fields.Read v from → walkOn (source file s (v .flags)) (lentBy t) at (from + v .size) from t ≡ headerOn file s at t
+  fields-read e = sym (ap (tell (fresh t)) (walked file s (lentBy t) at f e))
+
+  pub fields-bound : {v : HeaderFields} {from : ℕ} → r ≡ fields.Read v from → (at ≤ from) × (from ≤ length file) × (v .size ≤ 16777216)
+  fields-bound e = (starts-after file s (lentBy t) at f e, starts-inside file s (lentBy t) at f e, size-small file s (lentBy t) at f e)
 
 -- a refusal, no row, and the defaults
 pub record RejectedAs (x : Refusal) (r : DataObject) : Type 0 where
@@ -70,219 +85,120 @@ pub record Built (file t : List ℕ) (p : Progress) (s : State) (r : DataObject)
 pub wins≡ : {v w : Wins} → v .ds ≡ w .ds → v .dt ≡ w .dt → v .li ≡ w .li → v .gi ≡ w .gi → v .ai ≡ w .ai → v .«data» ≡ w .«data» → v ≡ w
 wins≡ a b c d e f = λ i. record { ds = a i; dt = b i; li = c i; gi = d i; ai = e i; «data» = f i }
 
--- a table that is zero from a place on up to i: none of it yet, and one word more
-pub cleared-none : (t : List ℕ) (from : ℕ) → t ≡ take from t ++ (replicate (from - from) 0 ++ drop from t)
-cleared-none t from = let e : from - from ≡ 0 = omega arith in rw e (sym (take-append-drop from t))
+-- what a walk that was done over a table t says, which it leaves as u: its items, and what of them is told
+record Told (file : List ℕ) (s : State) (at : ℕ) (t : List ℕ) (p : Progress) (u : List ℕ) : Type 0 where
+  items : List Item
+  reading : HeaderReading file s at (p .at) items
+  few : length items ≤ 4096
+  room : messages items ≤ length t / rowWords
+  reaches : header file s (lentBy t) at ≡ reached items (p .at)
+  entries : p .entries ≡ length items
+  rows : p .rows ≡ messages items
+  filled : u ≡ encode (rowsOf items) ++ drop (length (rowsOf items) * rowWords) t
 
-pub cleared-more : (t : List ℕ) (from i : ℕ) → from ≤ i → i < length t
-    → set (take from t ++ (replicate (i - from) 0 ++ drop i t)) i 0 ≡ take from t ++ (replicate (i + 1 - from) 0 ++ drop (i + 1) t)
-cleared-more t from i h l =
-    let a = take from t in
-    let z = replicate {A = ℕ} (i - from) 0 in
-    let y = getD t i 0 in
-    let ys = drop (suc i) t in
-    let n : length (a ++ z) ≡ i = omega (arith, length-append a z, length-take from t, length-replicate {A = ℕ} (i - from) 0) in
-    let d : i - from + 1 ≡ i + 1 - from = omega arith in
-    let e : suc i ≡ i + 1 = omega arith in
-    ap (λ (x : List ℕ). set (a ++ (z ++ x)) i 0) (drop-cons t i 0 l) ∙ ap (λ (x : List ℕ). set x i 0) (sym (append-assoc a z (y ∷ ys)))
-    ∙ set-at (a ++ z) y ys 0 i n ∙ append-assoc a z (0 ∷ ys)
-    ∙ ap (λ (x : List ℕ). a ++ x) (sym (append-assoc z (0 ∷ []) ys) ∙ ap (λ (x : List ℕ). x ++ ys) (replicate-append-replicate {A = ℕ} (i - from) 1 0)
-    ∙ ap₂ (λ (j k : ℕ). replicate j 0 ++ drop k t) d e)
+module _ (file : List ℕ) (s : State) (at : ℕ) (t : List ℕ) (p : Progress) (u : List ℕ) (e : headerOn file s at t ≡ reached (walkedOf p u) (p .at)) where
+  told : Told file s at t p u
+  told =
+      let l = lentBy t in
+      let v = first (header file s l at) (λ xs q. reached (grown (fresh t) xs) q) e in
+      let c : v .next ≡ p .at = cc (v .then) in
+      let d : grown (fresh t) (v .value) ≡ walkedOf p u = cc (v .then) in
+      let i = v .first ∙ ap (reached (v .value)) c in
+      let r = header-accepts file s l at (p .at) (v .value) .0 i in
+      let f = fit-lent (length t / rowWords) (v .value) .0 (r .1) in
+      let n = length-rowsOf (v .value) in
+      record {
+        items = v .value;
+        reading = r .0;
+        few = f .0;
+        room = f .1;
+        reaches = i;
+        entries = omega (arith, ap (λ (x : Walked). x .entries) d);
+        rows = omega (arith, ap (λ (x : Walked). x .rows) d);
+        filled = sym (ap (λ (x : Walked). x .table) d) ∙ filled-table (v .value) t (omega (arith, f .1)) ∙ ap (λ (k : ℕ). encode (rowsOf (v .value)) ++ drop (k * rowWords) t) (sym n);
+      }
 
--- a whole table
-pub cleared-all : (t : List ℕ) → take 0 t ++ replicate (length t - 0) 0 ≡ replicate (length t) 0
-cleared-all t = let e : length t - 0 ≡ length t = omega arith in rw e
-
--- a table that holds the rows of messages, cleared behind them
-emptied : (ms : List Message) (t u : List ℕ) (rows n : ℕ) → rows ≡ length ms → length u ≡ n → u ≡ encode ms ++ drop (length ms * 10) t
-    → take (rows * 10) u ++ replicate (length u - rows * 10) 0 ≡ encode ms ++ replicate (n - length ms * 10) 0
-emptied ms t u rows n r k e =
-    let d : rows * 10 ≡ length (encode ms) = omega (arith, length-encode ms) in
-    rw (k, e, d, take-append-seam (encode ms) (drop (length ms * 10) t), length-encode ms)
-
--- what follows the version, and the flags
-abbrev sized : ℕ → Format HeaderFields
-sized flags =
-    skip (pick (bit flags 5) 16 0) (number (2 ^ (flags % 4)) (λ size. check (leb size 16777216) 7 (done {A = HeaderFields} (record { flags = flags; size = size }))))
-
-abbrev flagged : Format HeaderFields
-flagged = number 1 (λ flags. check (not (bit flags 4)) 6 (sized flags))
-
--- the walk that an answer, a row count and a table tell of
-abbrev pub walkedBy : Answer → ℕ → List ℕ → Out Walked
-walkedBy (answers.Read next count) rows t = found (record { entries = count; rows = rows; table = t }) next
-walkedBy (answers.Refused x) rows t = refused (refusalNumber x)
-
--- a header's fields, and then its messages
-module _ (file : List ℕ) (s : State) (at : ℕ) (t : List ℕ) {r : FieldsRead} (f : fieldsOut r ≡ read file headerFields at) where
-  pub unread : {x : Refusal} → r ≡ fields.Refused x → refused (refusalNumber x) ≡ header file s at t
-  unfolding header
-  unread {x} e = sym (andThen-refused _ (met fieldsOut f e))
-
-  module _ {v : HeaderFields} {start : ℕ} (e : r ≡ fields.Read v start) where
-    pub walked : header file s at t ≡ walkOf file (record { state = s; flags = v .flags }) (start + v .size) start t
-    unfolding header
-    walked = andThen-found _ (met fieldsOut f e)
-
-    stands : Stands file headerFields at start v
-    stands = sound file headerFields at start v (met fieldsOut f e)
-
-    pub starts-inside : start ≤ length file
-    unfolding headerFields ohdr
-    starts-inside = inside file headerFields at start v stands (omega (arith, stands-bind file ohdr _ at start v stands .2 .0))
-
-    pub size-small : v .size ≤ 16777216
-    unfolding headerFields
-    size-small =
-        let a = stands-bind file ohdr _ at start v stands in
-        let version = le file (a .0) 1 in
-        let b = stands-check file (eqb version 2) 5 flagged (a .0 + 1) start v (a .3 .1) in
-        let flags = le file (a .0 + 1) 1 in
-        let c = stands-check file (not (bit flags 4)) 6 (sized flags) (a .0 + 1 + 1) start v (b .1 .1) in
-        let p = a .0 + 1 + 1 + pick (bit flags 5) 16 0 in
-        let size = le file p (2 ^ (flags % 4)) in
-        let d = stands-check file (leb size 16777216) 7 (done {A = HeaderFields} (record { flags = flags; size = size })) (p + 2 ^ (flags % 4)) start v (c .1 .1 .1) in
-        rw (← ap (λ (x : HeaderFields). x .size) (d .1 .1)) (leb-true size 16777216 (d .0))
+  pub rows-fit : length u ≡ length t → (p .rows * rowWords ≤ length u) × (p .rows ≤ length u / rowWords)
+  rows-fit k = (omega (arith, told .rows, told .room), omega (arith, told .rows, told .room))
 
 module _ (file : List ℕ) (offsets lengths end at n : ℕ) where
-  -- what a state that was made, or refused, says of the widths
-  pub made : {s : State} → stateOf offsets lengths end ≡ states.Made s → ((widthAllowed offsets && widthAllowed lengths) ≡ true) × (s ≡ stateFor offsets lengths end)
-  made {s} e = go (widthAllowed offsets && widthAllowed lengths) refl e
-    where
-      go : (t : Bool) → (widthAllowed offsets && widthAllowed lengths) ≡ t → pick t (states.Made (stateFor offsets lengths end)) (states.Refused refusals.Width) ≡ states.Made s
-          → ((widthAllowed offsets && widthAllowed lengths) ≡ true) × (s ≡ stateFor offsets lengths end)
-      go true d e = (d, cc)
-      go false d e = let z : _≡_ {A = ℕ} 0 1 = cc in absurd (omega arith)
-
-  unmade : {x : Refusal} → stateOf offsets lengths end ≡ states.Refused x → ((widthAllowed offsets && widthAllowed lengths) ≡ false) × (refusalNumber x ≡ 1)
-  unmade {x} e = go (widthAllowed offsets && widthAllowed lengths) refl e
-    where
-      go : (t : Bool) → (widthAllowed offsets && widthAllowed lengths) ≡ t → pick t (states.Made (stateFor offsets lengths end)) (states.Refused refusals.Width) ≡ states.Refused x
-          → ((widthAllowed offsets && widthAllowed lengths) ≡ false) × (refusalNumber x ≡ 1)
-      go true d e = let z : _≡_ {A = ℕ} 0 1 = cc in absurd (omega arith)
-      go false d e = let y : refusals.Width ≡ x = cc in (d, ap refusalNumber (sym y))
-
-  -- the definition by the tests that come first
-  pub no-width : (t : List ℕ) {x : Refusal} → stateOf offsets lengths end ≡ states.Refused x → decode file offsets lengths end at t ≡ refused (refusalNumber x)
-  unfolding decode
-  no-width t e = let u = unmade e in choose-no _ _ (u .0) ∙ ap refused (sym (u .1))
-
-  pub too-large : (t : List ℕ) {s : State} → stateOf offsets lengths end ≡ states.Made s → 2147483648 < length file → decode file offsets lengths end at t ≡ refused 2
-  unfolding decode
-  too-large t e h = choose-yes _ _ (made e .0) ∙ choose-no _ _ (lt-leb _ _ h)
-
-  pub goes-on : (t : List ℕ) {s : State} → stateOf offsets lengths end ≡ states.Made s → length file ≤ 2147483648 → decode file offsets lengths end at t ≡ header file s at t
-  unfolding decode
-  goes-on t e h = choose-yes _ _ (made e .0) ∙ choose-yes _ _ (le-leb _ _ h) ∙ ap (λ (x : State). header file x at t) (sym (made e .1))
-
-  allowed : Widths (stateFor offsets lengths end) → (widthAllowed offsets && widthAllowed lengths) ≡ true
-  allowed w = rw (le-leb 2 offsets (w .offsets-least), le-leb offsets 8 (w .offsets), le-leb 2 lengths (w .lengths-least), le-leb lengths 8 (w .lengths))
-
-  -- whatever has a reading is found
-  complete : (next : ℕ) (xs : List Item) → Readable file offsets lengths end at n next xs
-      → decode file offsets lengths end at (replicate n 0) ≡ found (record { entries = length xs; rows = messages xs; table = tableOf n xs }) next
-  unfolding decode
+  -- whatever has a reading within the limits is found
+  complete : (next : ℕ) (xs : List Item) → Readable file offsets lengths end at n next xs → decoded file offsets lengths end at n ≡ reached xs next
   complete next xs r =
-      choose-yes _ _ (allowed (r .widths)) ∙ choose-yes _ _ (le-leb _ _ (r .small)) ∙ header-complete file (stateFor offsets lengths end) at n next xs (r .within)
-
-  -- The contract says what the definition gives, the table with it, and that its rows are in the table.
-  module _ (r : DataObject) (t : List ℕ) (d : Decoded file offsets lengths end at n r t) where
-    read-rows : (next count : ℕ) (wins : Wins) (a : Accepted file offsets lengths end at n next count wins t) → r .rows ≡ messages (a .items)
-    read-rows next count wins a = d .rows ∙ ap rowsIn (complete next (a .items) (a .readable))
-
-    pub listed : walkedBy (r .answer) (r .rows) t ≡ decode file offsets lengths end at (replicate n 0)
-    listed = go (r .answer) (winsIn r) (d .answer) (d .meant)
-      where
-        back : (x : Refusal) (y : Out Walked) → refused (refusalNumber x) ≡ counted y → refused (refusalNumber x) ≡ y
-        back x (found w q) e = absurd (never e)
-        back x (refused m) e = let z : refusalNumber x ≡ m = cc in ap refused z
-
-        go : (a : Answer) (w : Wins) → answerOut a ≡ counted (decode file offsets lengths end at (replicate n 0)) → Meant file offsets lengths end at n a w t
-            → walkedBy a (r .rows) t ≡ decode file offsets lengths end at (replicate n 0)
-        go (answers.Read next count) w e m = rw (m .entries, read-rows next count w m, m .table) (sym (complete next (m .items) (m .readable)))
-        go (answers.Refused x) w e m = back x (decode file offsets lengths end at (replicate n 0)) e
-
-    pub rows-room : r .rows ≤ n / 10
-    rows-room = go (r .answer) (winsIn r) (d .answer) (d .meant)
-      where
-        none : (x : Refusal) (y : Out Walked) → refused (refusalNumber x) ≡ counted y → rowsIn y ≡ 0
-        none x (found w q) e = absurd (never e)
-        none x (refused m) e = refl
-
-        go : (a : Answer) (w : Wins) → answerOut a ≡ counted (decode file offsets lengths end at (replicate n 0)) → Meant file offsets lengths end at n a w t → r .rows ≤ n / 10
-        go (answers.Read next count) w e m = omega (arith, read-rows next count w m, m .readable .within .room)
-        go (answers.Refused x) w e m = omega (arith, d .rows, none x (decode file offsets lengths end at (replicate n 0)) e)
+      decode-complete offsets lengths end file at (lent (n / rowWords)) next xs (r .widths) (r .small) (r .reading) (fit-lent (n / rowWords) xs .1 (r .few, r .room))
 
   -- a refused header
-  pub rejected-decoded : (x : Refusal) (r : DataObject) (t : List ℕ) → decode file offsets lengths end at (replicate n 0) ≡ refused (refusalNumber x) → RejectedAs x r → t ≡ replicate n 0 → Decoded file offsets lengths end at n r t
-  rejected-decoded x r t e b z =
+  pub rejected-decoded : (x : Refusal) (k : ℕ) (r : DataObject) (t : List ℕ) → decoded file offsets lengths end at n ≡ stopped (refusalNumber x) k → RejectedAs x r → t ≡ replicate n 0
+      → Decoded file offsets lengths end at n r t
+  rejected-decoded x k r t e b z =
       record {
-        answer = ap answerOut (b .answer) ∙ sym (ap counted e);
+        answer = ap answerOut (b .answer) ∙ sym (ap counts e);
         rows = b .rows ∙ sym (ap rowsIn e);
-        meant = rw (b .answer) (record { none = none; table = z; records = b .records });
+        meant = rw (b .answer) (record { none = none; rows = b .rows; table = z; records = b .records });
         accepts = λ next xs y. absurd (none next xs y);
       }
     where
       none : (next : ℕ) (xs : List Item) → Readable file offsets lengths end at n next xs → ⊥
-      none next xs y = never (sym e ∙ complete next xs y)
+      none next xs y = never (sym (ap counts e) ∙ ap counts (complete next xs y))
 
-  -- a walk that was refused, in a table of any contents
-  pub walk-refused : {s : State} (m : stateOf offsets lengths end ≡ states.Made s) (small : length file ≤ 2147483648) (t : List ℕ) (x : Refusal) → length t ≡ n
-      → header file s at t ≡ refused (refusalNumber x) → decode file offsets lengths end at (replicate n 0) ≡ refused (refusalNumber x)
-  walk-refused {s} m small t x l e =
-      goes-on (replicate n 0) m small ∙ header-refused file s at (refusalNumber x) t (replicate n 0) (l ∙ sym (length-replicate {A = ℕ} n 0)) e
+  -- a walk that was refused
+  module _ {s : State} (m : stateOf offsets lengths end ≡ states.Made s) (small : length file ≤ fileLimit) (t : List ℕ) (l : length t ≡ n) where
+    same-limits : decoded file offsets lengths end at n ≡ header file s (lentBy t) at
+    same-limits = goes-on offsets lengths end file at (lent (n / rowWords)) m small ∙ ap (λ (k : ℕ). header file s (lent (k / rowWords)) at) (sym l)
 
-  -- a walk that was done, in a table of any contents: cleared behind its rows, the table is that of a walk over zeros
-  module _ (s : State) (p : Progress) (t u : List ℕ) (l : length t ≡ n) (k : length u ≡ n) (e : header file s at t ≡ found (walkedOf p u) (p .at)) where
-    walks : headers.Walks file s at t (p .at) (walkedOf p u)
-    walks = header-walks file s at t (p .at) (walkedOf p u) e
+    pub walk-refused : (x : Refusal) (k : ℕ) → headerOn file s at t ≡ stopped (refusalNumber x) k → decoded file offsets lengths end at n ≡ stopped (refusalNumber x) k
+    walk-refused x k e = same-limits ∙ untold (fresh t) (header file s (lentBy t) at) e
 
-    pub rows-fit : p .rows * 10 ≤ length u
-    rows-fit = omega (arith, walks .rows, walks .within .room)
+    -- a walk that was done, its table cleared behind its rows
+    module _ (p : Progress) (u v : List ℕ) (k : length u ≡ n) (c : v ≡ take (p .rows * rowWords) u ++ replicate (length u - p .rows * rowWords) 0)
+        (e : headerOn file s at t ≡ reached (walkedOf p u) (p .at)) where
+      w : Told file s at t p u
+      w = told file s at t p u e
 
-    pub walk-cleared : (v : List ℕ) → v ≡ take (p .rows * 10) u ++ replicate (length u - p .rows * 10) 0 → header file s at (replicate n 0) ≡ found (walkedOf p v) (p .at)
-    walk-cleared v c =
-        header-complete file s at n (p .at) (walks .items) (subst (λ (j : ℕ). Within file s at j (p .at) (walks .items)) l (walks .within))
-        ∙ sym (ap (λ (w : Walked). found w (p .at)) (state≡ (walks .entries) (walks .rows) (c ∙ emptied (messagesOf (walks .items)) t u (p .rows) n (walks .rows) k (walks .table))))
+      cleared : v ≡ table n (rowsOf (w .items))
+      cleared = c ∙ cleared-rows (rowsOf (w .items)) t u (p .rows) n (w .rows ∙ sym (length-rowsOf (w .items))) k (w .filled)
 
-  -- an accepted one
-  module _ {s : State} (m : stateOf offsets lengths end ≡ states.Made s) (small : length file ≤ 2147483648) (p : Progress) (t : List ℕ)
-      (e : header file s at (replicate n 0) ≡ found (walkedOf p t) (p .at)) where
-    reading : headers.Accepted file s at n (p .at) (walkedOf p t)
-    reading = header-sound file s at n (p .at) (walkedOf p t) e
+      -- a record that is read at the last body of its type is the one that wins
+      field : {A : Type 0} {type : ℕ} {F : Format A} {a₀ : A} {f : Wins → A} → Won file s type F a₀ f → f defaults ≡ a₀
+          → winner file F a₀ (lastIn v type (p .rows)) ≡ f (winsOf (messagesOf (w .items)))
+      field {type = type} {F = F} {a₀ = a₀} x d =
+          ap₂ (λ (y : List ℕ) (j : ℕ). winner file F a₀ (lastIn y type j)) cleared (w .rows)
+          ∙ won file s x d (messagesOf (w .items)) (all-bodied file s (w .reading)) (replicate (n - length (rowsOf (w .items)) * rowWords) 0)
 
-    -- the rows that are filled are in the table
-    pub rows-inside : length t ≡ n → p .rows ≤ length t / 10
-    rows-inside l = omega (arith, reading .rows, reading .within .room)
+      records : (r : DataObject) → Built file v p s r → winsIn r ≡ winsOf (messagesOf (w .items))
+      records r b =
+          wins≡ (b .ds ∙ field (space-won file s) refl) (b .dt ∙ field (type-won file s) refl) (b .li ∙ field (link-won file s) refl)
+          (b .gi ∙ field (group-won file s) refl) (b .ai ∙ field (info-won file s) refl) (b .«data» ∙ field (data-won file s) refl)
 
-    -- a record that is read at the last body of its type is the one that wins
-    field : {A : Type 0} {type : ℕ} {F : Format A} {a₀ : A} {f : Wins → A} → Won file s type F a₀ f → f defaults ≡ a₀
-        → winner file F a₀ (lastIn t type (p .rows)) ≡ f (winsOf (messagesOf (reading .items)))
-    field {type = type} {F = F} {a₀ = a₀} v d =
-        ap₂ (λ (x : List ℕ) (k : ℕ). winner file F a₀ (lastIn x type k)) (reading .table) (reading .rows)
-        ∙ won file s v d (messagesOf (reading .items)) (all-bodied file s (reading .within .reading)) (replicate (n - messages (reading .items) * 10) 0)
+      readable : Readable file offsets lengths end at n (p .at) (w .items)
+      readable = record {
+        widths = rw (sym (made offsets lengths end m .1)) (made-widths offsets lengths end s m);
+        small = small;
+        reading = rw (sym (made offsets lengths end m .1)) (w .reading);
+        few = w .few;
+        room = omega (arith, w .room);
+      }
 
-    records : (r : DataObject) → Built file t p s r → winsIn r ≡ winsOf (messagesOf (reading .items))
-    records r b =
-        wins≡ (b .ds ∙ field (space-won file s) refl) (b .dt ∙ field (type-won file s) refl) (b .li ∙ field (link-won file s) refl)
-        (b .gi ∙ field (group-won file s) refl) (b .ai ∙ field (info-won file s) refl) (b .«data» ∙ field (data-won file s) refl)
+      pub built-decoded : (r : DataObject) → Built file v p s r → Decoded file offsets lengths end at n r v
+      built-decoded r b =
+          let d = same-limits ∙ w .reaches in
+          record {
+            answer = ap answerOut (b .answer) ∙ ap (λ (k : ℕ). found k (p .at)) (w .entries) ∙ sym (ap counts d);
+            rows = b .rows ∙ w .rows ∙ sym (ap rowsIn d);
+            meant = rw (b .answer) (record { items = w .items; readable = readable; entries = w .entries; rows = b .rows ∙ w .rows; table = cleared; records = records r b });
+            accepts = λ next xs y. b .answer ∙ same next xs (sym d ∙ complete next xs y);
+          }
+        where
+          same : (next : ℕ) (xs : List Item) → reached (w .items) (p .at) ≡ reached xs next → answers.Read (p .at) (p .entries) ≡ answers.Read next (length xs)
+          same next xs y =
+              let a : p .at ≡ next = cc in
+              let b : w .items ≡ xs = cc in
+              rw (a, w .entries, b)
 
-    readable : Readable file offsets lengths end at n (p .at) (reading .items)
-    readable = record { widths = rw (sym (made m .1)) (made-widths offsets lengths end s m); small = small; within = rw (sym (made m .1)) (reading .within) }
-
-    pub built-decoded : (r : DataObject) → Built file t p s r → Decoded file offsets lengths end at n r t
-    built-decoded r b =
-        let d = goes-on (replicate n 0) m small ∙ e in
-        record {
-          answer = ap answerOut (b .answer) ∙ sym (ap counted d);
-          rows = b .rows ∙ sym (ap rowsIn d);
-          meant = rw (b .answer) (record { items = reading .items; readable = readable; entries = reading .entries; table = reading .table; records = records r b });
-          accepts = λ next xs y. b .answer ∙ same next xs (sym d ∙ complete next xs y);
-        }
-      where
-        same : (next : ℕ) (xs : List Item) → found (walkedOf p t) (p .at) ≡ found (record { entries = length xs; rows = messages xs; table = tableOf n xs }) next
-            → answers.Read (p .at) (p .entries) ≡ answers.Read next (length xs)
-        same next xs u =
-            let a : p .at ≡ next = cc in
-            let w : walkedOf p t ≡ record { entries = length xs; rows = messages xs; table = tableOf n xs } = cc in
-            rw (a, ap (λ (x : Walked). x .entries) w)
+  -- the rows that are filled are in the table
+  pub rows-room : (r : DataObject) (t : List ℕ) → Decoded file offsets lengths end at n r t → r .rows ≤ n / rowWords
+  rows-room r t d = go (r .answer) (d .meant)
+    where
+      go : (a : Answer) → Meant file offsets lengths end at n a r t → r .rows ≤ n / rowWords
+      go (answers.Read next count) m = omega (arith, m .rows, m .readable .room)
+      go (answers.Refused x) m = omega (arith, m .rows)

@@ -1,16 +1,17 @@
 // Decoding an object header into a lent table (data_object.rs, data_object and
 // build_data_object_from_messages), and the bytes of its data.
-use data_object_records::FieldsRead;
-use data_object_records::header_fields;
-use data_object_records::last_rows;
-use data_object_records::winning_attribute_info;
-use data_object_records::winning_data;
-use data_object_records::winning_data_space;
-use data_object_records::winning_data_type;
-use data_object_records::winning_group_info;
-use data_object_records::winning_link_info;
+use data_object_header::FieldsRead;
+use data_object_header::header_fields;
+use data_object_winners::last_rows;
+use data_object_winners::winning_attribute_info;
+use data_object_winners::winning_data;
+use data_object_winners::winning_data_space;
+use data_object_winners::winning_data_type;
+use data_object_winners::winning_group_info;
+use data_object_winners::winning_link_info;
 use ohdr_storage::contiguous_bytes;
 use ohdr_walk::Header;
+use ohdr_walk::Limits;
 use ohdr_walk::Progress;
 use ohdr_walk::Walk;
 use ohdr_walk::collect_all_messages;
@@ -23,15 +24,17 @@ use records::GroupInfo;
 use records::LinkInfo;
 use records::Part;
 use records::Refusal;
+use row::clear_behind;
+use row::rows_in;
 ghost use mathlib.Core.Path.{_≡_};
-ghost use mathlib.Core.List.{_++_};
-ghost use Prim.Native.Nat.{_-_, _/_, _≤_};
-ghost use lib.ListN.{length, take, replicate};
+ghost use Prim.Native.Nat.{_/_, _≤_};
+ghost use lib.ListN.{length};
+ghost use Rattle.row.specs.Rows.{rowWords};
 ghost use Rattle.parser.specs.States.{Widths};
 ghost use Rattle.ohdr_walk.specs.Code.{walkOut};
-ghost use Rattle.data_object_records.specs.Headers.{header as headerOf};
+ghost use Rattle.data_object_header.specs.Headers.{fileLimit};
 ghost use Rattle.data_object.specs.Decoded.{Decoded, bytesOf};
-ghost use Rattle.data_object.specs.DecodedLaws.{Built, RejectedAs};
+ghost use Rattle.data_object.specs.DecodedLaws.{Built, RejectedAs, headerOn};
 
 // The next position and the entries read, or why the header is refused.
 pub enum Answer {
@@ -50,18 +53,6 @@ pub struct DataObject {
     pub ai: AttributeInfo,
     pub gi: GroupInfo,
     pub data: Part,
-}
-
-// Every word from a place on zero.
-fn clear(table: &mut [u64], from: usize)
-    requires { ⌜ from ≤ length (now table) ⌝ }
-    ensures { λ _. ⌜ now (table .exit) ≡ take from (now (table .entry)) ++ replicate (length (now (table .entry)) - from) 0 ⌝ }
-{
-    let mut i: usize = from;
-    while i < table.len() {
-        table[i] = 0;
-        i += 1;
-    }
 }
 
 // A header that is refused hands no record out.
@@ -90,18 +81,23 @@ fn rejected(refusal: Refusal) -> DataObject
 
 // The header's fields, and then its messages.
 fn header_messages(file: &[u8], table: &mut [u64], position: usize, state: State) -> Walk
-    requires { ⌜ Widths state × (length (now file) ≤ 2147483648) ⌝ }
-    ensures { λ r. ⌜ walkOut r (now (table .exit)) ≡ headerOf (now (file .entry)) state position (now (table .entry)) ⌝ }
+    requires { ⌜ Widths state × (length (now file) ≤ fileLimit) ⌝ }
+    ensures { λ r. ⌜ walkOut r (now (table .exit)) ≡ headerOn (now (file .entry)) state position (now (table .entry)) ⌝ }
 {
     match header_fields(file, position) {
-        FieldsRead::Refused(r) => Walk::Refused(r),
+        FieldsRead::Refused(r) => Walk::Refused(r, 0),
         FieldsRead::Read(fields, start) => {
             let end = start + fields.size as usize;
             let header = Header {
                 state,
                 flags: fields.flags,
             };
-            collect_all_messages(file, table, header, start, end)
+            let limits = Limits {
+                entries: 4096,
+                beyond: Refusal::Entries,
+                rows: rows_in(table),
+            };
+            collect_all_messages(file, table, header, limits, position, start, end)
         }
     }
 }
@@ -113,7 +109,7 @@ fn build_data_object_from_messages(
     progress: Progress,
     state: State,
 ) -> DataObject
-    requires { ⌜ Widths state × (progress .rows ≤ length (now table) / 10) ⌝ }
+    requires { ⌜ Widths state × (progress .rows ≤ length (now table) / rowWords) ⌝ }
     ensures { λ r. ⌜ Built (now (file .entry)) (now (table .entry)) progress state r ⌝ }
 {
     let rows = progress.rows;
@@ -152,21 +148,21 @@ pub fn data_object(
     let state = match State::new(offset_width, length_width, end_of_file) {
         NewState::Made(s) => s,
         NewState::Refused(r) => {
-            clear(table, 0);
+            clear_behind(table, 0);
             return rejected(r);
         }
     };
     if 2147483648 < file.len() {
-        clear(table, 0);
+        clear_behind(table, 0);
         return rejected(Refusal::FileSize);
     }
     match header_messages(file, table, position as usize, state) {
-        Walk::Refused(r) => {
-            clear(table, 0);
+        Walk::Refused(r, _) => {
+            clear_behind(table, 0);
             rejected(r)
         }
         Walk::Done(progress) => {
-            clear(table, progress.rows * 10);
+            clear_behind(table, progress.rows);
             build_data_object_from_messages(file, table, progress, state)
         }
     }

@@ -56,7 +56,7 @@ tell-before s xs (reached ys q) = ap (λ (x : Walked). reached x q) (sym (grown-
 tell-before s xs (stopped r n) = refl
 
 -- a walk that stops says so
-untold : (s : Walked) (o : Went (List Item)) {r n : ℕ} → tell s o ≡ stopped r n → o ≡ stopped r n
+pub untold : (s : Walked) (o : Went (List Item)) {r n : ℕ} → tell s o ≡ stopped r n → o ≡ stopped r n
 untold s (reached xs q) e = never (sym e)
 untold s (stopped r n) e = cc
 

@@ -1,31 +1,21 @@
 -- What the code's answers mean, and the definition of a walk at the entries of a header. Assumes nothing: these are definitions.
 use Prim.Native.Nat.{ℕ}
-use mathlib.Core.Bool.{Bool, true}
 use mathlib.Core.List.{List}
 use lib.Dec.{ltb}
 use Rattle.format.specs.Format.{pick}
 use Rattle.records.specs.Refusals.{refusalNumber}
 use Rattle.row.specs.declared.Row.{Row}
 use Rattle.row.specs.Rows.{putRow}
-use Rattle.parser.specs.declared.State.{State}
 use Rattle.grammar.specs.Grammar.{Source}
 use Rattle.grammar.specs.Walk.{Went, reached, stopped}
 use Rattle.grammar.specs.Walk as walks
 use Rattle.grammar.specs.Filled.{Walked, entryOn, runOn, walkOn}
-use Rattle.ohdr_entry.specs.Entries.{prefixSize, entry}
+use Rattle.ohdr_walk.specs.Sources.{source}
 use Rattle.ohdr_walk.specs.declared.Header.{Header}
 use Rattle.ohdr_walk.specs.declared.Limits.{Limits}
 use Rattle.ohdr_walk.specs.declared.Progress.{Progress}
 use Rattle.ohdr_walk.specs.declared.Walk.{Walk}
 use Rattle.ohdr_walk.specs.declared.Walk.the-variants as answers
-
--- Whether the checksum stored at `end` is that of the bytes from `from` up to it. It is not tested yet, so that each one matches.
-unfoldable pub sumMatches : List ℕ → ℕ → ℕ → Bool
-sumMatches file from end = true
-
--- what is walked in a header with these flags
-abbrev pub source : List ℕ → State → ℕ → Source
-source file s flags = record { file = file; prefix = prefixSize flags; entry = entry s flags; sum = sumMatches file }
 
 abbrev pub sourceOf : List ℕ → Header → Source
 sourceOf file h = source file (h .state) (h .flags)

@@ -30,8 +30,9 @@ use Rattle.ohdr_entry.specs.declared.EntryRead.{EntryRead}
 use Rattle.ohdr_entry.specs.declared.EntryRead.the-variants as entries
 use Rattle.row.specs.declared.Row.{Row}
 use Rattle.row.specs.Rows.{putRow}
-use Rattle.ohdr_walk.specs.Code.{sumMatches, stored, sourceOf, limitsOf, walkedOf, walkOut, entryOf, runOf}
+use Rattle.ohdr_walk.specs.Code.{stored, sourceOf, limitsOf, walkedOf, walkOut, entryOf, runOf}
 use Rattle.helpers.specs.Facts.{met}
+use Rattle.ohdr_walk.specs.Sources.{sumMatches}
 use Rattle.ohdr_walk.specs.declared.Header.{Header}
 use Rattle.ohdr_walk.specs.declared.Limits.{Limits}
 use Rattle.ohdr_walk.specs.declared.Progress.{Progress}

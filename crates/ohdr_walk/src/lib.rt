@@ -20,7 +20,8 @@ ghost use Rattle.parser.specs.States.{Widths};
 ghost use Rattle.grammar.specs.Grammar.{blockEnd, headerEnd};
 ghost use Rattle.ohdr_entry.specs.Entries.{prefixSize};
 ghost use Rattle.row.specs.Rows.{rowWords};
-ghost use Rattle.ohdr_walk.specs.Code.{sumMatches, stored, walkedOf, walkOut, entryOf, runOf, walkOf};
+ghost use Rattle.ohdr_walk.specs.Sources.{sumMatches};
+ghost use Rattle.ohdr_walk.specs.Code.{stored, walkedOf, walkOut, entryOf, runOf, walkOf};
 
 // What does not change while a header is walked: the state of the file, and the header's flags.
 pub struct Header {

@@ -1,6 +1,6 @@
 use mathlib.Core.Path.{refl}
 use native.Mathlib.Omega.{arith}
-use Rattle.data_object_records.specs.LastRows.{last-within, last-at}
+use Rattle.data_object_winners.specs.LastRows.{last-within, last-at}
 use borrow.Author.Needs.{needs}
 use Rattle.data_object.proofs.build_data_object_from_messages.Statement.{statement}
 use Rattle.data_object.proofs.build_data_object_from_messages.Tie as tie

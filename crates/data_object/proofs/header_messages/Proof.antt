@@ -1,33 +1,45 @@
-use Rattle.data_object.specs.DecodedLaws.{unread, walked, starts-inside, size-small}
+use mathlib.Core.Path.{_∙_}
 use native.Mathlib.Omega.{arith}
-use mathlib.Core.Path.{sym, _∙_}
+use Rattle.data_object.specs.DecodedLaws.{fields-refused, fields-read, fields-bound}
 use borrow.Author.Needs.{needs}
 use Rattle.data_object.proofs.header_messages.Statement.{statement}
 use Rattle.data_object.proofs.header_messages.Tie as tie
 
+-- src/lib.rt:87:11
 header-fields-requires : tie.Need-header-fields-requires
 header-fields-requires c κs = search needs
 
+-- src/lib.rt:88:29
 enum-known-r : tie.Need-enum-known-r
 enum-known-r c = search needs
 
+-- src/lib.rt:89:26
 enum-known-fields : tie.Need-enum-known-fields
 enum-known-fields c = search needs
 
+-- src/lib.rt:90:23
 add-end : tie.Need-add-end
-add-end c = let a = starts-inside (c .before .before .before .before .before .before .args .file .now) (c .before .before .before .before .before .before .args .state) (c .before .before .before .before .before .before .args .position) (c .before .before .before .before .before .before .args .table .now) (c .before .before .before .header-fields .ensures) (c .before .fields .given .1) in let b = size-small (c .before .before .before .before .before .before .args .file .now) (c .before .before .before .before .before .before .args .state) (c .before .before .before .before .before .before .args .position) (c .before .before .before .before .before .before .args .table .now) (c .before .before .before .header-fields .ensures) (c .before .fields .given .1) in omega (arith, (c .before .before .before .before .before .before .pre))
+add-end c = let a = (c .before .before .before .before .before .before .args) in omega (arith, (c .before .before .before .before .before .before .pre), fields-bound (a .file .now) (a .state) (a .position) (a .table .now) (c .before .before .before .header-fields .ensures) (c .before .fields .given .1))
 
+-- src/lib.rt:98:23
+rows-in-requires : tie.Need-rows-in-requires
+rows-in-requires c κs = search needs
+
+-- src/lib.rt:100:13
 collect-all-messages-requires : tie.Need-collect-all-messages-requires
-collect-all-messages-requires c κs = let a = starts-inside (c .before .before .before .before .before .before .before .args .file .now) (c .before .before .before .before .before .before .before .args .state) (c .before .before .before .before .before .before .before .args .position) (c .before .before .before .before .before .before .before .args .table .now) (c .before .before .before .before .header-fields .ensures) (c .before .before .fields .given .1) in let b = size-small (c .before .before .before .before .before .before .before .args .file .now) (c .before .before .before .before .before .before .before .args .state) (c .before .before .before .before .before .before .before .args .position) (c .before .before .before .before .before .before .before .args .table .now) (c .before .before .before .before .header-fields .ensures) (c .before .before .fields .given .1) in (c .before .before .before .before .before .before .before .pre .0, a, omega arith, c .before .before .before .before .before .before .before .pre .1)
+collect-all-messages-requires c κs = let a = (c .before .before .before .before .before .before .before .before .before .args) in let b = fields-bound (a .file .now) (a .state) (a .position) (a .table .now) (c .before .before .before .before .before .before .header-fields .ensures) (c .before .before .before .before .fields .given .1) in (c .before .before .before .before .before .before .before .before .before .pre .0, omega (arith, c .before .rows-in .ensures), b .1, omega (arith, b .0))
 
+-- src/lib.rt:83:1
 returns : tie.Need-returns
-returns c = unread (c .before .before .before .before .before .before .args .file .now) (c .before .before .before .before .before .before .args .state) (c .before .before .before .before .before .before .args .position) (c .before .before .before .before .before .before .args .table .now) (c .before .before .before .header-fields .ensures) (c .before .r .given .1)
+returns c = let a = (c .before .before .before .before .before .before .args) in fields-refused (a .file .now) (a .state) (a .position) (a .table .now) (c .before .before .before .header-fields .ensures) (c .before .r .given .1)
 
+-- src/lib.rt:83:1
 same-length : tie.Need-same-length
 same-length c = search needs
 
+-- src/lib.rt:83:1
 returns-2 : tie.Need-returns-2
-returns-2 c = c .before .before .collect-all-messages .ensures ∙ sym (walked (c .before .before .before .before .before .before .before .before .before .before .args .file .now) (c .before .before .before .before .before .before .before .before .before .before .args .state) (c .before .before .before .before .before .before .before .before .before .before .args .position) (c .before .before .before .before .before .before .before .before .before .before .args .table .now) (c .before .before .before .before .before .before .before .header-fields .ensures) (c .before .before .before .before .before .fields .given .1))
+returns-2 c = let a = (c .before .before .before .before .before .before .before .before .before .before .before .before .args) in rw (c .before .before .before .before .rows-in .ensures) at (c .before .before .collect-all-messages .ensures) ∙ fields-read (a .file .now) (a .state) (a .position) (a .table .now) (c .before .before .before .before .before .before .before .before .before .header-fields .ensures) (c .before .before .before .before .before .before .before .fields .given .1)
 
 pub header-messages-spec : {M : Type 1} → statement M
 header-messages-spec =
@@ -37,6 +49,7 @@ header-messages-spec =
     enum-known-r
     enum-known-fields
     add-end
+    rows-in-requires
     collect-all-messages-requires
     returns
     same-length

@@ -1,5 +1,5 @@
 use mathlib.Core.Path.{refl}
-use Rattle.ohdr_walk.specs.Code.{sumMatches}
+use Rattle.ohdr_walk.specs.Sources.{sumMatches}
 use Rattle.ohdr_walk.proofs.checksum_matches.Statement.{statement}
 use Rattle.ohdr_walk.proofs.checksum_matches.Tie as tie
 

@@ -1,0 +1,4 @@
+pub mod Answers
+pub mod Headers
+pub mod Facts
+pub mod HeaderLaws

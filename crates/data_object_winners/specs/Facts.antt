@@ -1,0 +1,25 @@
+-- The rows of a table, none and one more. Assumes nothing.
+use Prim.Native.Nat.{ℕ, zero, suc, _+_, _-_}
+use mathlib.Core.Path.{_≡_, refl}
+use mathlib.Core.List.{List}
+use native.Mathlib.Omega.{arith}
+use lib.ListN.{set}
+use lib.Dec.{ltb}
+use Rattle.format.specs.Format.{pick}
+use Rattle.row.specs.Rows.{rowAt}
+use Rattle.data_object_winners.specs.Winners.{lastRows, bodyOf}
+use Rattle.data_object_winners.specs.declared.LastBody.the-variants as bodies
+
+-- the rows of a table: none, and one more
+pub last-none : (l t : List ℕ) → lastRows l t 0 ≡ l
+unfolding lastRows
+last-none l t = refl
+
+pub last-more : (l t : List ℕ) (n : ℕ) → lastRows l t (n + 1) ≡ pick (ltb (rowAt t n .kind) 22) (set (lastRows l t n) (rowAt t n .kind) (n + 1)) (lastRows l t n)
+unfolding lastRows
+last-more l t n = let e : n + 1 ≡ suc n = omega arith in rw e
+
+-- a row of a number above 0
+pub body-some : (t : List ℕ) (row : ℕ) → (row ≡ 0 → ⊥) → bodyOf t row ≡ bodies.At (rowAt t (row - 1) .body)
+body-some t zero h = absurd (h refl)
+body-some t (suc n) h = let e : suc n - 1 ≡ n = omega arith in rw e

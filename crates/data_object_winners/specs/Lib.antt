@@ -1,0 +1,5 @@
+pub mod Wins
+pub mod Winners
+pub mod Facts
+pub mod LastRows
+pub mod WinnerLaws
