@@ -19,7 +19,7 @@ use Rattle.records.specs.declared.DataSpace.{DataSpace}
 use Rattle.parser.specs.declared.State.{State}
 use Rattle.ohdr_dataspace.specs.DataSpaces.{unlimited, dimension, dimensionsFrom, dimensions, kind, headerFlags, headerSizes, dataSpaceHeader, maximumSizes, dataSpaceSizes, dataSpace}
 use Rattle.standard.specs.Fields.{only, many}
-use Rattle.standard.specs.Tie.{Tied, tied-done, tied-number, tied-skip, tied-split, tied-check, tied-only, tied-bind, tied-more, tied-after, tied-bind-check}
+use Rattle.standard.specs.Tie.{Tied, tied-done, tied-number, tied-skip-number, tied-split, tied-check, tied-only, tied-bind, tied-more, tied-after, tied-bind-check}
 use Rattle.standard.specs.Versions.{marked, tied-by-version, tied-marked}
 use Rattle.standard.specs.Dataspaces.{Stored, not-stored, stored, storedSizes, Dataspace1, dataspace1, Dataspace2, dataspace2, ValidDataspace2, Dataspace, version-1, version-2, dataspaceMessage}
 
@@ -102,12 +102,12 @@ unfolding storedSizes bind
 none-stored present n w g e t = rw e t
 
 -- what follows the header, in version 1 and in version 2
-sizes1-tied : (version dimensionality flags w : ℕ) → dimensionality ≤ 4 → bit flags 1 ≡ false
+sizes1-tied : (version dimensionality flags reserved reserved-2 w : ℕ) → dimensionality ≤ 4 → bit flags 1 ≡ false
     → Tied SameDataspace1 (dataSpaceSizes w (record { dimensionality = dimensionality; flags = flags; kind = options8.None }))
     (bind (many dimensionality (number w done)) (λ dimension-size. bind (storedSizes (bit flags 0) dimensionality w) (λ dimension-maximum-size. bind (storedSizes (bit flags 1) dimensionality w) (λ permutation-index.
-    done {A = Dataspace1} (record { version = version; dimensionality = dimensionality; flags = flags; dimension-size = dimension-size; dimension-maximum-size = dimension-maximum-size; permutation-index = permutation-index })))))
+    done {A = Dataspace1} (record { version = version; dimensionality = dimensionality; flags = flags; reserved = reserved; reserved-2 = reserved-2; dimension-size = dimension-size; dimension-maximum-size = dimension-maximum-size; permutation-index = permutation-index })))))
 unfolding dataSpaceSizes
-sizes1-tied version dimensionality flags w h e =
+sizes1-tied version dimensionality flags reserved reserved-2 w h e =
     tied-bind (dimensions-tied dimensionality w false h) (λ _ _ s.
     tied-bind (maximum-tied dimensionality w (bit flags 0) h) (λ _ _ m.
     none-stored (bit flags 1) dimensionality w _ e (tied-done (record { dimensionality = refl; flags = refl; no-type = refl; dimension-size = s; dimension-maximum-size = m }))))
@@ -138,7 +138,8 @@ version1-tied w v e =
     tied-bind-check (leb dimensionality 4) 9 (headerFlags version dimensionality) (dataSpaceSizes w) (λ h.
     tied-number (λ flags.
     tied-bind-check (not (eqb version 1 && bit flags 1)) 9 _ (dataSpaceSizes w) (λ c.
-    rw f (tied-split 1 4 (tied-skip (tied-skip (sizes1-tied version dimensionality flags w (leb-true dimensionality 4 h) (flags-clear (eqb version 1) (bit flags 1) f c)))))))))))))
+    rw f (tied-split 1 4 (tied-skip-number (λ reserved. tied-skip-number (λ reserved-2.
+    sizes1-tied version dimensionality flags reserved reserved-2 w (leb-true dimensionality 4 h) (flags-clear (eqb version 1) (bit flags 1) f c)))))))))))))
 
 version2-tied : (w v : ℕ) → v ≡ 2 → Tied SameDataspace2 (number 1 (λ n. only (eqb n v) (bind (check (eqb n 1 || eqb n 2) 9 (headerSizes n)) (dataSpaceSizes w)))) (dataspace2 w)
 unfolding dataspace2 bind kind
