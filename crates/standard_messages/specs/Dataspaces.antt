@@ -1,6 +1,6 @@
 -- The dataspace as it is read is that of the specification.
 -- Entries are those of docs/DIFFERENCES.md, part one. Assumes nothing.
-use Prim.Native.Nat.{ℕ, zero, suc, _+_, _≤_, _<_}
+use Prim.Native.Nat.{ℕ, zero, suc, _+_, _≤_}
 use mathlib.Core.Path.{_≡_, refl, sym, ap, _∙_}
 use mathlib.Core.Bool.{Bool, true, false, not, _&&_, _||_}
 use mathlib.Core.List.{List, _∷_, _++_}
@@ -21,7 +21,7 @@ use Rattle.ohdr_dataspace.specs.DataSpaces.{unlimited, dimension, dimensionsFro
 use Rattle.standard.specs.Fields.{only, many}
 use Rattle.standard.specs.Tie.{Tied, tied-done, tied-number, tied-skip-number, tied-split, tied-check, tied-only, tied-bind, tied-more, tied-after, tied-bind-check}
 use Rattle.standard.specs.Versions.{marked, tied-by-version, tied-marked}
-use Rattle.standard.specs.Dataspaces.{Stored, not-stored, stored, storedSizes, Dataspace1, dataspace1, Dataspace2, dataspace2, ValidDataspace2, Dataspace, version-1, version-2, dataspaceMessage}
+use Rattle.standard.specs.Dataspaces.{Stored, not-stored, stored, storedSizes, Dataspace1, dataspace1, Dataspace2, dataspace2, Dataspace, version-1, version-2, dataspaceMessage}
 
 -- the sizes of the dimensions
 pub record SameSizes (ours : Dimensions) (theirs : List ℕ) : Type 0 where
@@ -33,12 +33,6 @@ abbrev pub SameMaximum : Dimensions → Stored → Type 0
 SameMaximum ours not-stored = ours ≡ noDimensions
 SameMaximum ours (stored sizes) = SameSizes ours sizes
 
--- what is not tested of the type (entry 26)
-pub record AlikeDataspace2 (x : Dataspace2) : Type 0 where
-  pub type-known : x .type ≤ 2
-  pub scalar : x .type ≡ 0 → x .dimensionality ≡ 0
-  pub simple : x .type ≡ 1 → 0 < x .dimensionality
-
 -- IV.A.2.b, version 1; reserved bits of the flags are kept, reserved bytes passed over (entry 25); permutation indices are refused (24)
 pub record SameDataspace1 (ours : DataSpace) (theirs : Dataspace1) : Type 0 where
   pub dimensionality : ours .dimensionality ≡ theirs .dimensionality
@@ -47,14 +41,13 @@ pub record SameDataspace1 (ours : DataSpace) (theirs : Dataspace1) : Type 0 wher
   pub dimension-size : SameSizes (ours .«dimension_size») (theirs .dimension-size)
   pub dimension-maximum-size : SameMaximum (ours .«dimension_max_size») (theirs .dimension-maximum-size)
 
--- version 2; reserved bits of the flags are kept (entry 25)
+-- version 2; reserved bits of the flags are kept (entry 25), and the type is not tested (26)
 pub record SameDataspace2 (ours : DataSpace) (theirs : Dataspace2) : Type 0 where
   pub dimensionality : ours .dimensionality ≡ theirs .dimensionality
   pub flags : ours .flags ≡ theirs .flags
   pub type : ours .kind ≡ options8.Some (theirs .type)
   pub dimension-size : SameSizes (ours .«dimension_size») (theirs .dimension-size)
   pub dimension-maximum-size : SameMaximum (ours .«dimension_max_size») (theirs .dimension-maximum-size)
-  pub valid : AlikeDataspace2 theirs → ValidDataspace2 theirs
 
 abbrev pub SameDataspace : DataSpace → Dataspace → Type 0
 SameDataspace ours (version-1 x) = SameDataspace1 ours x
@@ -120,7 +113,7 @@ unfolding dataSpaceSizes
 sizes2-tied version dimensionality flags type w h =
     tied-bind (dimensions-tied dimensionality w false h) (λ _ _ s.
     tied-bind (maximum-tied dimensionality w (bit flags 0) h) (λ _ _ m.
-    tied-done (record { dimensionality = refl; flags = refl; type = refl; dimension-size = s; dimension-maximum-size = m; valid = λ a. record { type-known = a .type-known; scalar = a .scalar; simple = a .simple } })))
+    tied-done (record { dimensionality = refl; flags = refl; type = refl; dimension-size = s; dimension-maximum-size = m })))
 
 flags-clear : (v : Bool) (b : Bool) → v ≡ true → not (v && b) ≡ true → b ≡ false
 flags-clear true b e h = not-true b h
