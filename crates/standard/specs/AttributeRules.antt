@@ -7,7 +7,7 @@ use lib.ListN.{getD}
 use Rattle.standard.specs.Fields.{Bytes}
 use Rattle.standard.specs.DatatypeRules.{ValidDatatype}
 use Rattle.standard.specs.Dataspaces.{ValidDataspace2, Dataspace, version-1, version-2}
-use Rattle.standard.specs.Attributes.{Described, Attribute1, Attribute3, Attribute, of-version-1, of-version-3}
+use Rattle.standard.specs.Attributes.{Described, Attribute1, Attribute3}
 
 -- Name Size counts the null terminator: a name of n bytes and its terminator fill the field
 pub record NullTerminated (s : List ℕ) (field : Bytes) (n : ℕ) : Type 0 where
@@ -37,7 +37,3 @@ pub record ValidAttribute3 (s : List ℕ) (x : Attribute3) : Type 0 where
   pub name-character-set-encoding : x .sizes .name-character-set-encoding ≤ 1
   pub name : (n : ℕ) × NullTerminated s (x .name) n
   pub described : ValidDescribed (x .described)
-
-abbrev pub ValidAttribute : List ℕ → Attribute → Type 0
-ValidAttribute s (of-version-1 x) = ValidAttribute1 s x
-ValidAttribute s (of-version-3 x) = ValidAttribute3 s x

@@ -110,14 +110,14 @@ pub record Attribute1 : Type 0 where
   pub name : Bytes
   pub name-padding : ℕ
   pub described : Described
-  pub raw-data : Bytes
+  pub «data» : Bytes
 
 -- Layout: Attribute Message (Version 3)
 pub record Attribute3 : Type 0 where
   pub sizes : Sizes3
   pub name : Bytes
   pub described : Described
-  pub raw-data : Bytes
+  pub «data» : Bytes
 
 module _ (longest levels size-of-lengths : ℕ) where
   unfoldable pub attribute1 : Format Attribute1
@@ -126,13 +126,13 @@ module _ (longest levels size-of-lengths : ℕ) where
       bind (raw (sizes .name-size)) (λ name.
       number (toMultipleOf8 (sizes .name-size)) (λ name-padding.
       bind (described longest levels size-of-lengths toMultipleOf8 (sizes .datatype-size) (sizes .dataspace-size)) (λ described.
-      bind (raw (rawSize described)) (λ raw-data.
+      bind (raw (rawSize described)) (λ «data».
       done {A = Attribute1} (record {
         sizes = sizes;
         name = name;
         name-padding = name-padding;
         described = described;
-        raw-data = raw-data;
+        «data» = «data»;
       }))))))
 
   -- Flags: with bit 0 the datatype is shared, with bit 1 the dataspace: the field then holds a shared message. This is the table without.
@@ -142,12 +142,12 @@ module _ (longest levels size-of-lengths : ℕ) where
       only (not (bit (sizes .flags) 0 || bit (sizes .flags) 1)) (
       bind (raw (sizes .name-size)) (λ name.
       bind (described longest levels size-of-lengths (λ _. 0) (sizes .datatype-size) (sizes .dataspace-size)) (λ described.
-      bind (raw (rawSize described)) (λ raw-data.
+      bind (raw (rawSize described)) (λ «data».
       done {A = Attribute3} (record {
         sizes = sizes;
         name = name;
         described = described;
-        raw-data = raw-data;
+        «data» = «data»;
       }))))))
 
 -- the message in either version

@@ -5,7 +5,7 @@ use mathlib.Core.Bool.{Bool}
 use mathlib.Core.List.{List}
 use lib.Dec.{eqb}
 use Rattle.format.specs.Bits.{bit}
-use Rattle.format.specs.Format.{Format, done, refuse, number, skip, bind, pick}
+use Rattle.format.specs.Format.{Format, done, refuse, number, bind, pick}
 use Rattle.standard.specs.Fields.{only, many}
 use Rattle.standard.specs.Versions.{byVersion, marked}
 
@@ -22,19 +22,21 @@ pub record Dataspace1 : Type 0 where
   pub version : ℕ
   pub dimensionality : ℕ
   pub flags : ℕ
+  pub reserved : ℕ
+  pub reserved-2 : ℕ
   pub dimension-size : List ℕ
   pub dimension-maximum-size : Stored
   pub permutation-index : Stored
 
--- bit 0 of the flags: maximum sizes; bit 1: permutation indices; 1 and 4 bytes are reserved
+-- bit 0 of the flags: maximum sizes; bit 1: permutation indices
 unfoldable pub dataspace1 : ℕ → Format Dataspace1
 dataspace1 size-of-lengths =
     number 1 (λ version.
     only (eqb version 1) (
     number 1 (λ dimensionality.
     number 1 (λ flags.
-    skip 1 (
-    skip 4 (
+    number 1 (λ reserved.
+    number 4 (λ reserved-2.
     bind (many dimensionality (number size-of-lengths done)) (λ dimension-size.
     bind (storedSizes (bit flags 0) dimensionality size-of-lengths) (λ dimension-maximum-size.
     bind (storedSizes (bit flags 1) dimensionality size-of-lengths) (λ permutation-index.
@@ -42,6 +44,8 @@ dataspace1 size-of-lengths =
       version = version;
       dimensionality = dimensionality;
       flags = flags;
+      reserved = reserved;
+      reserved-2 = reserved-2;
       dimension-size = dimension-size;
       dimension-maximum-size = dimension-maximum-size;
       permutation-index = permutation-index;

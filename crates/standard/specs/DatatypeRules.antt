@@ -2,7 +2,7 @@
 -- definitions.
 use Prim.Native.Nat.{ℕ, _+_, _*_, _/_, _%_, _^_, _≤_}
 use mathlib.Core.Path.{_≡_}
-use Rattle.standard.specs.Datatypes.{DatatypeHeader, class, Member1, Datatype, datatype, headerOf, Properties, fixed-point, floating-point, no-properties, members, parent-type, Members, no-members, version-1, version-3}
+use Rattle.standard.specs.Datatypes.{DatatypeHeader, class, version, FixedPoint, Member1, Datatype, datatype, headerOf, Properties, fixed-point, floating-point, no-properties, members, parent-type, Members, no-members, version-1, version-3}
 
 -- as many bits of a number as are said, from the given one on
 abbrev pub bits : ℕ → ℕ → ℕ → ℕ
@@ -12,6 +12,7 @@ bits n low count = n / 2 ^ low % 2 ^ count
 pub record ValidClassBits (h : DatatypeHeader) : Type 0 where
   pub fixed-point-reserved : class h ≡ 0 → bits (h .class-bit-field) 4 20 ≡ 0
   pub floating-point-byte-order : class h ≡ 1 → bits (h .class-bit-field) 6 1 ≡ 1 → bits (h .class-bit-field) 0 1 ≡ 1
+  pub floating-point-vax-order : class h ≡ 1 → bits (h .class-bit-field) 6 1 ≡ 1 → version h ≡ 3
   pub floating-point-normalization : class h ≡ 1 → bits (h .class-bit-field) 4 2 ≤ 2
   pub floating-point-reserved : class h ≡ 1 → bits (h .class-bit-field) 7 1 ≡ 0
   pub floating-point-reserved-high : class h ≡ 1 → bits (h .class-bit-field) 16 8 ≡ 0
@@ -35,6 +36,29 @@ ValidNumber h (floating-point f) = f .bit-offset + f .bit-precision ≤ 8 * h .s
 ValidNumber h no-properties = Unit {0}
 ValidNumber h (members m) = Unit {0}
 ValidNumber h (parent-type t) = Unit {0}
+
+-- H5T_NATIVE_UCHAR: an unsigned fixed-point number of one byte, in either byte order
+pub record UnsignedByte (h : DatatypeHeader) (f : FixedPoint) : Type 0 where
+  pub fixed-point : class h ≡ 0
+  pub size : h .size ≡ 1
+  pub unsigned : bits (h .class-bit-field) 3 1 ≡ 0
+  pub bit-offset : f .bit-offset ≡ 0
+  pub bit-precision : f .bit-precision ≡ 8
+
+abbrev pub NativeUchar : Datatype → Type 0
+NativeUchar (datatype h (fixed-point f)) = UnsignedByte h f
+NativeUchar (datatype h (floating-point f)) = ⊥
+NativeUchar (datatype h no-properties) = ⊥
+NativeUchar (datatype h (members m)) = ⊥
+NativeUchar (datatype h (parent-type t)) = ⊥
+
+-- a variable-length string (1 in bits 0-3) has that parent type
+abbrev pub ValidParentType : DatatypeHeader → Properties → Type 0
+ValidParentType h (fixed-point f) = Unit {0}
+ValidParentType h (floating-point f) = Unit {0}
+ValidParentType h no-properties = Unit {0}
+ValidParentType h (members m) = Unit {0}
+ValidParentType h (parent-type t) = bits (h .class-bit-field) 0 4 ≡ 1 → NativeUchar t
 
 -- each member lies within the datatype element, which has this size
 abbrev pub Within : ℕ → Members → Type 0
@@ -89,5 +113,6 @@ abbrev mutual
 pub record ValidDatatype (t : Datatype) : Type 0 where
   pub class-bits : Each (λ h p. ValidClassBits h) t
   pub numbers : Each ValidNumber t
+  pub parent-types : Each ValidParentType t
   pub members : Each ValidMembers t
   pub members-of-version-1 : Each ValidMembers1 t

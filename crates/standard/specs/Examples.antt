@@ -50,12 +50,14 @@ pub a-continuation : read (1 ∷ 2 ∷ 3 ∷ 0 ∷ 4 ∷ []) (continuationMessag
 unfolding read le continuationMessage
 a-continuation = refl
 
--- two dimensions, their maximum sizes and permutation indices
-pub a-dataspace : read (1 ∷ 2 ∷ 3 ∷ 0 ∷ 0 ∷ 0 ∷ 0 ∷ 0 ∷ 5 ∷ 0 ∷ 6 ∷ 0 ∷ 7 ∷ 0 ∷ 255 ∷ 255 ∷ 1 ∷ 0 ∷ 0 ∷ 0 ∷ []) (dataspace1 2) 0
+-- reserved bytes, two dimensions, their maximum sizes and permutation indices
+pub a-dataspace : read (1 ∷ 2 ∷ 3 ∷ 8 ∷ 9 ∷ 1 ∷ 0 ∷ 0 ∷ 5 ∷ 0 ∷ 6 ∷ 0 ∷ 7 ∷ 0 ∷ 255 ∷ 255 ∷ 1 ∷ 0 ∷ 0 ∷ 0 ∷ []) (dataspace1 2) 0
     ≡ found (record {
       version = 1;
       dimensionality = 2;
       flags = 3;
+      reserved = 8;
+      reserved-2 = 265;
       dimension-size = 5 ∷ 6 ∷ [];
       dimension-maximum-size = stored (7 ∷ 65535 ∷ []);
       permutation-index = stored (1 ∷ 0 ∷ []);

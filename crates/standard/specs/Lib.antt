@@ -2,6 +2,7 @@ pub mod Fields
 pub mod Tie
 pub mod TieMore
 pub mod Versions
+pub mod Untested
 pub mod Headers
 pub mod Chunks
 pub mod Dataspaces

@@ -187,8 +187,10 @@ filterDescription1 =
     bind (optional (eqb (fields .number-client-data-values % 2) 1) 4) (λ padding.
     done {A = FilterDescription1} (record { fields = fields; name = name; client-data = client-data; padding = padding })))))
 
--- what is asked of a filter: flag bits 1-15 are zero; a name ends with a zero, and is filled up with zeros to a multiple of eight; so is the padding zero
+-- what is asked of a filter: identification 0 is reserved; flag bits 1-15 are zero; a name ends with a zero, and is filled up with zeros to a
+-- multiple of eight; so is the padding zero
 pub record ValidFilterDescription1 (s : List ℕ) (x : FilterDescription1) : Type 0 where
+  pub filter-identification-value : x .fields .filter-identification-value ≡ 0 → ⊥
   pub flags-reserved : x .fields .flags / 2 ≡ 0
   pub name-padded : x .fields .name-length % 8 ≡ 0
   pub name-ended : 0 < x .fields .name-length → getD s (x .name .position + x .name .length - 1) 0 ≡ 0
@@ -265,8 +267,10 @@ filterDescription2 =
     bind (many (fields .number-client-data-values) (number 4 done)) (λ client-data.
     done {A = FilterDescription2} (record { fields = fields; name = name; client-data = client-data }))))
 
--- what is asked of a filter: flag bits 1-15 are zero
+-- What is asked of a filter: identification 0 is reserved; flag bits 1-15 are zero. Of its name nothing is asked: the text says both that it is
+-- padded to a multiple of eight and that it is not (docs/DECISIONS.md).
 pub record ValidFilterDescription2 (x : FilterDescription2) : Type 0 where
+  pub filter-identification-value : x .fields .filter-identification-value ≡ 0 → ⊥
   pub flags-reserved : x .fields .flags / 2 ≡ 0
 
 -- the first fields of Layout: Filter Pipeline Message - Version 2

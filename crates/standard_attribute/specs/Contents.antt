@@ -32,6 +32,7 @@ use Rattle.standard_datatype.specs.Ties.{datatype-tied}
 use Rattle.standard_messages.specs.Dataspaces.{SameDataspace, dataspace-tied}
 use Rattle.standard_attribute.specs.Differences.{ElementsDiffer, scalar-with-sizes, null, ContentsDiffer, in-datatype, other-datatype-size, other-dataspace-size, other-elements, variable-length-elements, long-data}
 use Rattle.standard_attribute.specs.Same.{PaddedText, SameValue}
+use Rattle.standard_attribute.specs.TextValues.{sizesOf}
 
 -- a text that is ended by zeros has the length that is left without them
 pub padded-length : (s : List ℕ) (p m l n : ℕ) → Trimmed s p m l → PaddedText s (record { position = p; length = m }) n → l ≡ n
@@ -121,16 +122,12 @@ product-same [] = refl
 product-same (n ∷ ns) = rw (product-same ns)
 
 -- the sizes of a dataspace of either version
-abbrev sizesOf : Dataspace → List ℕ
-sizesOf (version-1 x) = x .dimension-size
-sizesOf (version-2 x) = x .dimension-size
-
 same-sizes : (d : DataSpace) (b : Dataspace) → SameDataspace d b → take (d .«dimension_size» .count) (d .«dimension_size» .sizes) ≡ sizesOf b
 same-sizes d (version-1 x) h = h .dimension-size .size
 same-sizes d (version-2 x) h = h .dimension-size .size
 
 -- the elements are the product of the sizes
-elements-by : (b : Dataspace) → ElementsDiffer b ⊎ (product (sizesOf b) ≡ elements b)
+pub elements-by : (b : Dataspace) → ElementsDiffer b ⊎ (product (sizesOf b) ≡ elements b)
 unfolding product
 elements-by (version-1 x) = inr refl
 elements-by (version-2 x) = go (eqb (x .type) 0) refl (eqb (x .type) 2) refl (x .dimension-size) refl
@@ -141,6 +138,9 @@ elements-by (version-2 x) = go (eqb (x .type) 0) refl (eqb (x .type) 2) refl (x 
     go true e b f (n ∷ ns) g = inl (scalar-with-sizes (eqb-true (x .type) 0 e) (λ d. let z = sym g ∙ d in let y : _≡_ {A = ℕ} 1 0 = ap (λ (l : List ℕ). elim l [ [] ↦ 0 | _∷_ m ms ↦ 1 ]) z in omega arith))
     go false e true f ns g = inl (null (eqb-true (x .type) 2 f))
     go false e false f ns g = inr refl
+
+pub elements-same : (d : DataSpace) (b : Dataspace) → SameDataspace d b → product (sizesOf b) ≡ elements b → spaces.elements d ≡ elements b
+elements-same d b r e = product-same (take (d .«dimension_size» .count) (d .«dimension_size» .sizes)) ∙ ap product (same-sizes d b r) ∙ e
 
 module _ (s : List ℕ) (state : State) (longest : ℕ) (wide : 4095 ≤ longest) where
   abbrev theTypes : Format Datatype
@@ -166,9 +166,6 @@ module _ (s : List ℕ) (state : State) (longest : ℕ) (wide : 4095 ≤ longest
 
     abbrev Contents : ℕ → ℕ → OptionPart → Type 0
     Contents p q v = ContentsDiffer s state longest version pad datatype-size dataspace-size p ⊎ Held p q v
-
-    elements-same : (d : DataSpace) (b : Dataspace) → SameDataspace d b → product (sizesOf b) ≡ elements b → spaces.elements d ≡ elements b
-    elements-same d b r e = product-same (take (d .«dimension_size» .count) (d .«dimension_size» .sizes)) ∙ ap product (same-sizes d b r) ∙ e
 
     -- the data, after both descriptions
     data-tied : (p m q : ℕ) (x : Described) (t : DataType) (d : DataSpace) (v : OptionPart) → Stands s theDescribed p m x → SameType t (x .datatype) → SameDataspace d (x .dataspace)

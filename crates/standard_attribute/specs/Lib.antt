@@ -1,6 +1,11 @@
 pub mod Differences
 pub mod Same
+pub mod TextValues
 pub mod Contents
 pub mod Ties
 pub mod Rules
+pub mod ReadSpaces
+pub mod ReadStrings
+pub mod Values
+pub mod TextSamples
 pub mod Samples

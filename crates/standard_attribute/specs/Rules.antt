@@ -1,55 +1,84 @@
--- What the specification asks of the values of an attribute message holds of what is read, where no listed difference applies. Assumes nothing.
-use Prim.Native.Nat.{ℕ, _≤_}
-use mathlib.Core.Path.{_≡_}
-use mathlib.Core.List.{List}
-use Rattle.records.specs.declared.Attribute as ours
-use Rattle.standard.specs.DatatypeRules.{Each}
-use Rattle.standard.specs.Attributes.{Described, Attribute1, Attribute3, Attribute, of-version-1, of-version-3}
-use Rattle.standard.specs.AttributeRules.{NullTerminated, ValidDataspace, ValidDescribed, ValidAttribute}
-use Rattle.standard_datatype.specs.Same.{MembersOfVersion3}
-use Rattle.standard_datatype.specs.Rules.{AlikeType, datatype-valid}
-use Rattle.standard_attribute.specs.Same.{SameAttribute}
+-- Rules of the standard on the values of an attribute message that are not tested: for each a message that is read and breaks it. Entries are
+-- those of docs/DIFFERENCES.md, part one. Assumes nothing.
+use Prim.Native.Nat.{ℕ}
+use mathlib.Core.Path.{_≡_, refl}
+use mathlib.Core.List.{List, [], _∷_, _++_}
+use native.Mathlib.Omega.{arith}
+use Rattle.format.specs.Bytes.{le, textLength}
+use Rattle.format.specs.Format.{read, bind}
+use Rattle.parser.specs.declared.State.{State}
+use Rattle.ohdr_datatype.specs.DataTypes.{knownClass, knownType, dataTypeHeader, plain, typeLayer, dataType}
+use Rattle.ohdr_datatype.specs.DataTypes as types
+use Rattle.ohdr_dataspace.specs.DataSpaces as spaces
+use Rattle.ohdr_attribute.specs.Attributes.{textValue, value, spaceValue, typeSpaceValue, nameAndValue, encoding, attributeFields, attribute}
+use Rattle.standard.specs.Fields.{many, raw}
+use Rattle.standard.specs.Untested.{Untested}
+use Rattle.standard.specs.Versions.{byVersion, marked}
+use Rattle.standard.specs.Datatypes.{datatypeHeader, datatype, no-properties, properties, datatypeOf, datatypeMessage}
+use Rattle.standard.specs.Dataspaces.{not-stored, storedSizes, dataspace1, dataspace2, version-1, version-2, dataspaceMessage}
+use Rattle.standard.specs.Attributes.{sizes1, sizes3, sized, described, product, Attribute3, attribute1, attribute3}
+use Rattle.standard.specs.AttributeRules.{ValidAttribute1, ValidAttribute3}
 
--- what is not tested, by entries of docs/DIFFERENCES.md, part one
-pub record AlikeDescribed (x : Described) : Type 0 where
-  -- 32, 33 and 36
-  pub datatype : AlikeType (x .datatype)
-  -- 26: the kind of a dataspace
-  pub dataspace : ValidDataspace (x .dataspace)
+-- lengths of 2 bytes
+abbrev state : State
+state = record { «size_of_lengths» = 2; «size_of_offsets» = 2; «end_of_file_address» = 0 }
 
-pub record AlikeAttribute1 (s : List ℕ) (x : Attribute1) : Type 0 where
-  -- 51: reserved bytes and padding
-  pub reserved : x .sizes .reserved ≡ 0
-  pub name-padding : x .name-padding ≡ 0
-  pub datatype-padding : x .described .datatype-padding ≡ 0
-  pub dataspace-padding : x .described .dataspace-padding ≡ 0
-  -- 55: a name with its zero
-  pub name : (n : ℕ) × NullTerminated s (x .name) n
-  pub described : AlikeDescribed (x .described)
-
-pub record AlikeAttribute3 (s : List ℕ) (x : Attribute3) : Type 0 where
-  -- 54: the character set of the name
-  pub name-character-set-encoding : x .sizes .name-character-set-encoding ≤ 1
-  -- 55: a name with its zero
-  pub name : (n : ℕ) × NullTerminated s (x .name) n
-  pub described : AlikeDescribed (x .described)
-
-abbrev pub AlikeAttribute : List ℕ → Attribute → Type 0
-AlikeAttribute s (of-version-1 x) = AlikeAttribute1 s x
-AlikeAttribute s (of-version-3 x) = AlikeAttribute3 s x
-
-described-valid : (x : Described) → Each MembersOfVersion3 (x .datatype) → AlikeDescribed x → ValidDescribed x
-described-valid x h a = record { datatype = datatype-valid (x .datatype) h (a .datatype); dataspace = a .dataspace }
-
-pub attribute-valid : (s : List ℕ) (a : ours.Attribute) (b : Attribute) → SameAttribute s a b → AlikeAttribute s b → ValidAttribute s b
-attribute-valid s a (of-version-1 x) h w =
+-- 51: version 1 with a reserved byte of 255
+pub reserved-untested : Untested ValidAttribute1 (attribute state) (attribute1 4095 1 2)
+unfolding read bind le many raw byVersion marked datatypeHeader properties datatypeOf datatypeMessage storedSizes dataspace1 dataspace2 dataspaceMessage sizes1 sized described product attribute1 textLength knownClass knownType dataTypeHeader plain typeLayer dataType types.properties spaces.dataSpace spaces.dataSpaceHeader spaces.kind spaces.dimensions spaces.dimensionsFrom spaces.dimension spaces.maximumSizes spaces.dataSpaceSizes spaces.product textValue value spaceValue typeSpaceValue nameAndValue encoding attributeFields attribute
+reserved-untested =
     record {
-      reserved = w .reserved;
-      name = w .name;
-      name-padding = w .name-padding;
-      datatype-padding = w .datatype-padding;
-      dataspace-padding = w .dataspace-padding;
-      described = described-valid (x .described) (h .members) (w .described);
+      file = (1 ∷ 255 ∷ 1 ∷ 0 ∷ 8 ∷ 0 ∷ 8 ∷ 0 ∷ []) ++ (0 ∷ 0 ∷ 0 ∷ 0 ∷ 0 ∷ 0 ∷ 0 ∷ 0 ∷ []) ++ (0x13 ∷ 0 ∷ 0 ∷ 0 ∷ 1 ∷ 0 ∷ 0 ∷ 0 ∷ []) ++ (1 ∷ 0 ∷ 0 ∷ 0 ∷ 0 ∷ 0 ∷ 0 ∷ 0 ∷ []) ++ (0x76 ∷ []);
+      end = 33;
+      message = record {
+        sizes = record { version = 1; reserved = 255; name-size = 1; datatype-size = 8; dataspace-size = 8 };
+        name = record { position = 8; length = 1 };
+        name-padding = 0;
+        described = record {
+          datatype = datatype (record { class-and-version = 0x13; class-bit-field = 0; size = 1 }) no-properties;
+          datatype-padding = 0;
+          dataspace = version-1 (record { version = 1; dimensionality = 0; flags = 0; reserved = 0; reserved-2 = 0; dimension-size = []; dimension-maximum-size = not-stored; permutation-index = not-stored });
+          dataspace-padding = 0;
+        };
+        «data» = record { position = 32; length = 1 };
+      };
+      read-here = refl;
+      standard = refl;
+      broken = λ v. let e : _≡_ {A = ℕ} 255 0 = v .reserved in omega arith;
     }
-attribute-valid s a (of-version-3 x) h w =
-    record { name-character-set-encoding = w .name-character-set-encoding; name = w .name; described = described-valid (x .described) (h .members) (w .described) }
+
+-- version 3, a character set, a name of one byte, a string of 1 byte, a scalar dataspace, and the text `v`
+abbrev file3 : ℕ → ℕ → List ℕ
+file3 set letter = (3 ∷ 0 ∷ 1 ∷ 0 ∷ 8 ∷ 0 ∷ 4 ∷ 0 ∷ set ∷ letter ∷ []) ++ (0x13 ∷ 0 ∷ 0 ∷ 0 ∷ 1 ∷ 0 ∷ 0 ∷ 0 ∷ []) ++ (2 ∷ 0 ∷ 0 ∷ 0 ∷ 0x76 ∷ [])
+
+abbrev message3 : ℕ → Attribute3
+message3 set =
+    record {
+      sizes = record { version = 3; flags = 0; name-size = 1; datatype-size = 8; dataspace-size = 4; name-character-set-encoding = set };
+      name = record { position = 9; length = 1 };
+      described = record {
+        datatype = datatype (record { class-and-version = 0x13; class-bit-field = 0; size = 1 }) no-properties;
+        datatype-padding = 0;
+        dataspace = version-2 (record { version = 2; dimensionality = 0; flags = 0; type = 0; dimension-size = []; dimension-maximum-size = not-stored });
+        dataspace-padding = 0;
+      };
+      «data» = record { position = 22; length = 1 };
+    }
+
+-- 54: the character set 255; and 55: a name without its zero
+pub version-3-untested : Untested ValidAttribute3 (attribute state) (attribute3 4095 1 2) × Untested ValidAttribute3 (attribute state) (attribute3 4095 1 2)
+unfolding read bind le many raw byVersion marked datatypeHeader properties datatypeOf datatypeMessage storedSizes dataspace1 dataspace2 dataspaceMessage sizes3 sized described product attribute3 textLength knownClass knownType dataTypeHeader plain typeLayer dataType types.properties spaces.dataSpace spaces.dataSpaceHeader spaces.kind spaces.dimensions spaces.dimensionsFrom spaces.dimension spaces.maximumSizes spaces.dataSpaceSizes spaces.product textValue value spaceValue typeSpaceValue nameAndValue encoding attributeFields attribute
+version-3-untested = (
+  record { file = file3 255 0; end = 23; message = message3 255; read-here = refl; standard = refl; broken = λ v. omega (arith, v .name-character-set-encoding) },
+  record {
+    file = file3 0 0x61;
+    end = 23;
+    message = message3 0;
+    read-here = refl;
+    standard = refl;
+    broken = λ v.
+        let e : v .name .0 ≡ 0 = omega (arith, v .name .1 .size) in
+        let z : _≡_ {A = ℕ} 0x61 0 = rw e at (v .name .1 .terminator) in
+        omega arith;
+  },
+)

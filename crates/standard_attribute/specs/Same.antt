@@ -46,8 +46,8 @@ pub record SameFields (s : List ℕ) (a : ours.Attribute) (name-field : Bytes) (
   pub value : SameValue s (a .value) (class (headerOf (contents .datatype))) (headerOf (contents .datatype) .size) data-field
 
 abbrev pub SameAttribute : List ℕ → ours.Attribute → Attribute → Type 0
-SameAttribute s a (of-version-1 x) = SameFields s a (x .name) (x .described) (x .raw-data)
-SameAttribute s a (of-version-3 x) = SameFields s a (x .name) (x .described) (x .raw-data)
+SameAttribute s a (of-version-1 x) = SameFields s a (x .name) (x .described) (x .«data»)
+SameAttribute s a (of-version-3 x) = SameFields s a (x .name) (x .described) (x .«data»)
 
 -- the name alone: the fields before it stand by the standard from p to m, and it is the name field that follows them
 pub data NameStood (s : List ℕ) (p : ℕ) (name : Part) : Type 0 where

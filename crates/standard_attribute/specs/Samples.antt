@@ -16,17 +16,14 @@ use Rattle.standard.specs.Fields.{Bytes, many, raw}
 use Rattle.standard.specs.Versions.{byVersion, marked}
 use Rattle.standard.specs.Datatypes.{datatypeHeader, properties, datatypeOf, datatypeMessage}
 use Rattle.standard.specs.Dataspaces.{storedSizes, dataspace1, dataspace2, dataspaceMessage}
-use Rattle.standard.specs.Attributes.{sizes1, sizes3, sized, described, product, Attribute, of-version-1, of-version-3, attribute1, attribute3, attributeMessage}
+use Rattle.standard.specs.Attributes.{sizes1, sizes3, sized, described, product, attribute1, attribute3, attributeMessage}
+use Rattle.standard_attribute.specs.TextValues.{dataOf}
 
 -- lengths of 2 bytes
 abbrev state : State
 state = record { «size_of_lengths» = 2; «size_of_offsets» = 2; «end_of_file_address» = 0 }
 
 -- the data field of the standard's message, and the end
-abbrev dataOf : Attribute → Bytes
-dataOf (of-version-1 x) = x .raw-data
-dataOf (of-version-3 x) = x .raw-data
-
 abbrev theirs : List ℕ → Out Bytes
 theirs file = elim (read file (attributeMessage 4095 1 2) 0) [ found x q ↦ found (dataOf x) q | refused n ↦ refused n ]
 

@@ -27,7 +27,7 @@ use Rattle.standard.specs.Tie.{bind-stands, Stood, Tied, tied-done, tied-number
 use Rattle.standard.specs.Versions.{version-stands, marked-stands}
 use Rattle.standard.specs.Datatypes.{toMultipleOf8}
 use Rattle.standard.specs.AttributeRules.{NullTerminated}
-use Rattle.standard.specs.Attributes.{Sizes1, sizes1, Sizes3, sizes3, Described, described, rawSize, Attribute1, attribute1, Attribute3, attribute3, Attribute, of-version-1, of-version-3, attributeMessage}
+use Rattle.standard.specs.Attributes.{Sizes1, sizes1, Sizes3, sizes3, Described, described, rawSize, Attribute1, attribute1, Attribute3, attribute3, of-version-1, of-version-3, attributeMessage}
 use Rattle.standard_attribute.specs.Differences.{ContentsDiffer, no-reading, AttributeDiffers, padded-name, shared, in-version-1, in-version-3}
 use Rattle.standard_attribute.specs.Same.{SameName, SameAttribute, NameStood}
 use Rattle.standard_attribute.specs.Same as names
@@ -105,7 +105,7 @@ unfolding raw
 raw-stands s p n h = (h, (refl, refl))
 
 -- the padding of a name in version 1, unless the name is above 8 bytes and padded
-name-padding : (n : ℕ) → ((8 < n) × (toMultipleOf8 n ≡ 0 → ⊥)) ⊎ (namePadding 1 n ≡ toMultipleOf8 n)
+pub name-padding : (n : ℕ) → ((8 < n) × (toMultipleOf8 n ≡ 0 → ⊥)) ⊎ (namePadding 1 n ≡ toMultipleOf8 n)
 name-padding n = by-le n 8 (λ l. inr (omega arith)) (λ l. go (eqb (toMultipleOf8 n) 0) refl l)
   where
     go : (t : Bool) → eqb (toMultipleOf8 n) 0 ≡ t → 8 < n → ((8 < n) × (toMultipleOf8 n ≡ 0 → ⊥)) ⊎ (namePadding 1 n ≡ toMultipleOf8 n)
@@ -122,7 +122,7 @@ terminated-length s p m l n h i =
     })
 
 -- a text of a name field is its name
-same-name : (s : List ℕ) (m n l : ℕ) (name : Part) → Trimmed s m n l → name ≡ record { position = m; length = l } → SameName s name (record { position = m; length = n })
+pub same-name : (s : List ℕ) (m n l : ℕ) (name : Part) → Trimmed s m n l → name ≡ record { position = m; length = l } → SameName s name (record { position = m; length = n })
 same-name s m n l name h e =
     let f : l ≡ name .length = ap (λ (x : Part). x .length) (sym e) in
     record {
@@ -131,7 +131,7 @@ same-name s m n l name h e =
     }
 
 -- what follows the fields before the name
-abbrev ourName : State → AttributeFields → Format ours.Attribute
+abbrev pub ourName : State → AttributeFields → Format ours.Attribute
 ourName state f =
     here (λ from.
     text (f .«name_size») (λ length.
@@ -176,7 +176,7 @@ module _ (s : List ℕ) (state : State) (longest : ℕ) (wide : 4095 ≤ longest
   -- the message of version 1
   abbrev theAttribute1 : Sizes1 → ℕ → ℕ → Described → ℕ → Attribute1
   theAttribute1 x m e c u =
-      record { sizes = x; name = record { position = m; length = x .name-size }; name-padding = e; described = c; raw-data = record { position = u; length = rawSize c } }
+      record { sizes = x; name = record { position = m; length = x .name-size }; name-padding = e; described = c; «data» = record { position = u; length = rawSize c } }
 
   stands1 : (p m u : ℕ) (x : Sizes1) (c : Described) → Stands s sizes1 p m x → m + x .name-size + toMultipleOf8 (x .name-size) ≤ length s
       → Stands s (described longest typeLevels width toMultipleOf8 (x .datatype-size) (x .dataspace-size)) (m + x .name-size + toMultipleOf8 (x .name-size)) u c → u + rawSize c ≤ length s
@@ -193,7 +193,7 @@ module _ (s : List ℕ) (state : State) (longest : ℕ) (wide : 4095 ≤ longest
   -- the message of version 3
   abbrev theAttribute3 : Sizes3 → ℕ → Described → ℕ → Attribute3
   theAttribute3 x m c u =
-      record { sizes = x; name = record { position = m; length = x .name-size }; described = c; raw-data = record { position = u; length = rawSize c } }
+      record { sizes = x; name = record { position = m; length = x .name-size }; described = c; «data» = record { position = u; length = rawSize c } }
 
   stands3 : (p m u : ℕ) (x : Sizes3) (c : Described) → Stands s sizes3 p m x → (bit (x .flags) 0 || bit (x .flags) 1) ≡ false → m + x .name-size ≤ length s
       → Stands s (described longest typeLevels width (λ _. 0) (x .datatype-size) (x .dataspace-size)) (m + x .name-size) u c → u + rawSize c ≤ length s
@@ -201,7 +201,7 @@ module _ (s : List ℕ) (state : State) (longest : ℕ) (wide : 4095 ≤ longest
   unfolding attribute3
   stands3 p m u x c h e l i k =
       bind-stands s sizes3 _ p m _ x _ h
-      (rw e (bind-stands s (raw (x .name-size)) (λ name. bind (described longest typeLevels width (λ _. 0) (x .datatype-size) (x .dataspace-size)) (λ c. bind (raw (rawSize c)) (λ d. done {A = Attribute3} (record { sizes = x; name = name; described = c; raw-data = d }))))
+      (rw e (bind-stands s (raw (x .name-size)) (λ name. bind (described longest typeLevels width (λ _. 0) (x .datatype-size) (x .dataspace-size)) (λ c. bind (raw (rawSize c)) (λ d. done {A = Attribute3} (record { sizes = x; name = name; described = c; «data» = d }))))
       m (m + x .name-size) (u + rawSize c) (record { position = m; length = x .name-size }) (theAttribute3 x m c u) (raw-stands s m (x .name-size) l)
       (bind-stands s (described longest typeLevels width (λ _. 0) (x .datatype-size) (x .dataspace-size)) _ (m + x .name-size) u _ c _ i
       (bind-stands s (raw (rawSize c)) _ u (u + rawSize c) _ (record { position = u; length = rawSize c }) _ (raw-stands s u (rawSize c) k) (refl, refl)))))

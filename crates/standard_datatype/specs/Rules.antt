@@ -1,52 +1,97 @@
--- What the specification asks of the values of a datatype message holds of what is read, where no listed difference applies. Assumes nothing.
-use Rattle.standard.specs.Datatypes.{DatatypeHeader, Datatype, datatype, Properties, fixed-point, floating-point, no-properties, members, parent-type, Members, no-members, version-1, version-3}
-use Rattle.standard.specs.DatatypeRules.{ValidClassBits, ValidNumber, ValidMembers, ValidMember1s, ValidMembers1, Each, EachInside, EachMember, ValidDatatype}
-use Rattle.standard_datatype.specs.Same.{OfVersion3, MembersOfVersion3}
+-- Rules of the standard on the values of a datatype message that are not tested: for each a message that is read and breaks it. Entries are
+-- those of docs/DIFFERENCES.md, part one. Assumes nothing.
+use Prim.Native.Nat.{ℕ}
+use mathlib.Core.Path.{_≡_, refl}
+use mathlib.Core.List.{List, [], _∷_, _++_}
+use native.Mathlib.Omega.{arith}
+use Rattle.format.specs.Bytes.{le, nameLength}
+use Rattle.format.specs.Format.{read, bind, times}
+use Rattle.ohdr_datatype.specs.DataTypes.{knownClass, knownType, dataTypeHeader, fixedProperties, floatProperties, floatIs, ieee, floatFormat, memberFields, member, plain, listProperties, typeLayer, dataType}
+use Rattle.ohdr_datatype.specs.DataTypes as ours
+use Rattle.standard.specs.Untested.{Untested}
+use Rattle.standard.specs.Datatypes.{DatatypeHeader, datatypeHeader, fixedPoint, floatingPoint, terminated, member3, Datatype, datatype, Properties, fixed-point, floating-point, no-properties, members, parent-type, no-members, version-3, members3, compound, properties, datatypeOf, datatypeMessage}
+use Rattle.standard.specs.DatatypeRules.{ValidClassBits, ValidNumber, ValidParentType, ValidMembers, Each}
 
--- what is not tested, by entries of docs/DIFFERENCES.md, part one
-pub record AlikeType (t : Datatype) : Type 0 where
-  -- 33: class bits
-  pub class-bits : Each (λ h p. ValidClassBits h) t
-  -- 32: numbers that fit their size
-  pub numbers : Each ValidNumber t
-  -- 36: members that lie in the compound
-  pub members : Each ValidMembers t
+-- a rule on each datatype message, also inside another, that is not tested
+abbrev pub NotTested : (DatatypeHeader → Properties → Type 0) → Type 0
+NotTested rule = Untested (λ _ t. Each rule t) (dataType 32) (datatypeMessage 4095 32)
 
-module _ (P Q : DatatypeHeader → Properties → Type 0) (f : (h : DatatypeHeader) (p : Properties) → P h p → Q h p) where
-  mutual
-    each : (t : Datatype) → Each P t → Each Q t
-    each (datatype h p) w = (f h p (w .0), each-inside p (w .1))
+-- a string of 4 bytes
+abbrev string4 : List ℕ
+string4 = 0x13 ∷ 0 ∷ 0 ∷ 0 ∷ 4 ∷ 0 ∷ 0 ∷ 0 ∷ []
 
-    each-inside : (p : Properties) → EachInside P p → EachInside Q p
-    each-inside (fixed-point x) w = tt
-    each-inside (floating-point x) w = tt
-    each-inside no-properties w = tt
-    each-inside (members m) w = each-member m w
-    each-inside (parent-type t) w = each t w
+abbrev theString4 : Datatype
+theString4 = datatype (record { class-and-version = 0x13; class-bit-field = 0; size = 4 }) no-properties
 
-    each-member : (m : Members) → EachMember P m → EachMember Q m
-    each-member no-members w = tt
-    each-member (version-1 m t rest) w = (each t (w .0), each-member rest (w .1))
-    each-member (version-3 m t rest) w = (each t (w .0), each-member rest (w .1))
-
-none-of-version-1 : (m : Members) → OfVersion3 m → ValidMember1s m
-none-of-version-1 no-members w = tt
-none-of-version-1 (version-1 m t rest) w = absurd w
-none-of-version-1 (version-3 m t rest) w = none-of-version-1 rest w
-
-members-valid : (h : DatatypeHeader) (p : Properties) → MembersOfVersion3 h p → ValidMembers1 h p
-members-valid h (fixed-point x) w = tt
-members-valid h (floating-point x) w = tt
-members-valid h no-properties w = tt
-members-valid h (members m) w = none-of-version-1 m w
-members-valid h (parent-type t) w = tt
-
--- `Each MembersOfVersion3` is proved of every datatype that is read: the field `members` of `SameType`
-pub datatype-valid : (t : Datatype) → Each MembersOfVersion3 t → AlikeType t → ValidDatatype t
-datatype-valid t h a =
+-- 33: a number of one byte with a reserved bit
+pub class-bits-untested : NotTested (λ h _. ValidClassBits h)
+unfolding read bind le datatypeHeader fixedPoint properties datatypeOf datatypeMessage knownClass knownType dataTypeHeader fixedProperties ours.properties typeLayer dataType
+class-bits-untested =
     record {
-      class-bits = a .class-bits;
-      numbers = a .numbers;
-      members = a .members;
-      members-of-version-1 = each MembersOfVersion3 ValidMembers1 members-valid t h;
+      file = 0x10 ∷ 16 ∷ 0 ∷ 0 ∷ 1 ∷ 0 ∷ 0 ∷ 0 ∷ 0 ∷ 0 ∷ 8 ∷ 0 ∷ [];
+      end = 12;
+      message = datatype (record { class-and-version = 0x10; class-bit-field = 16; size = 1 }) (fixed-point (record { bit-offset = 0; bit-precision = 8 }));
+      read-here = refl;
+      standard = refl;
+      broken = λ v. let e : _≡_ {A = ℕ} 1 0 = v .0 .fixed-point-reserved refl in omega arith;
+    }
+
+-- 33: an IEEE single of version 1 in VAX order
+pub vax-order-untested : NotTested (λ h _. ValidClassBits h)
+unfolding read bind le datatypeHeader floatingPoint properties datatypeOf datatypeMessage knownClass knownType dataTypeHeader floatProperties floatIs ieee floatFormat ours.properties typeLayer dataType
+vax-order-untested =
+    record {
+      file = (0x11 ∷ 0x61 ∷ 31 ∷ 0 ∷ 4 ∷ 0 ∷ 0 ∷ 0 ∷ []) ++ (0 ∷ 0 ∷ 32 ∷ 0 ∷ 23 ∷ 8 ∷ 0 ∷ 23 ∷ 127 ∷ 0 ∷ 0 ∷ 0 ∷ []);
+      end = 20;
+      message = datatype (record { class-and-version = 0x11; class-bit-field = 0x1F61; size = 4 }) (floating-point (record {
+        bit-offset = 0;
+        bit-precision = 32;
+        exponent-location = 23;
+        exponent-size = 8;
+        mantissa-location = 0;
+        mantissa-size = 23;
+        exponent-bias = 127;
+      }));
+      read-here = refl;
+      standard = refl;
+      broken = λ v. let e : _≡_ {A = ℕ} 1 3 = v .0 .floating-point-vax-order refl refl in omega arith;
+    }
+
+-- 32: a number of 16 bits in one byte
+pub number-untested : NotTested ValidNumber
+unfolding read bind le datatypeHeader fixedPoint properties datatypeOf datatypeMessage knownClass knownType dataTypeHeader fixedProperties ours.properties typeLayer dataType
+number-untested =
+    record {
+      file = 0x10 ∷ 0 ∷ 0 ∷ 0 ∷ 1 ∷ 0 ∷ 0 ∷ 0 ∷ 0 ∷ 0 ∷ 16 ∷ 0 ∷ [];
+      end = 12;
+      message = datatype (record { class-and-version = 0x10; class-bit-field = 0; size = 1 }) (fixed-point (record { bit-offset = 0; bit-precision = 16 }));
+      read-here = refl;
+      standard = refl;
+      broken = λ v. omega (arith, v .0);
+    }
+
+-- new: The parent type of a variable-length string. It is a string here.
+pub parent-type-untested : NotTested ValidParentType
+unfolding read bind le datatypeHeader properties datatypeOf datatypeMessage knownClass knownType dataTypeHeader plain listProperties ours.properties typeLayer dataType
+parent-type-untested =
+    record {
+      file = (0x19 ∷ 1 ∷ 0 ∷ 0 ∷ 16 ∷ 0 ∷ 0 ∷ 0 ∷ []) ++ string4;
+      end = 16;
+      message = datatype (record { class-and-version = 0x19; class-bit-field = 1; size = 16 }) (parent-type theString4);
+      read-here = refl;
+      standard = refl;
+      broken = λ v. v .0 refl;
+    }
+
+-- 36: a compound of one byte with a member of 4 bytes
+pub members-untested : NotTested ValidMembers
+unfolding read bind times le nameLength datatypeHeader terminated member3 members3 compound properties datatypeOf datatypeMessage knownClass knownType dataTypeHeader memberFields ours.member3 member plain ours.properties typeLayer dataType
+members-untested =
+    record {
+      file = (0x36 ∷ 1 ∷ 0 ∷ 0 ∷ 1 ∷ 0 ∷ 0 ∷ 0 ∷ []) ++ (0x6E ∷ 0 ∷ 0 ∷ []) ++ string4;
+      end = 19;
+      message = datatype (record { class-and-version = 0x36; class-bit-field = 1; size = 1 }) (members (version-3 (record { name = record { position = 8; length = 1 }; byte-offset-of-member = 0 }) theString4 no-members));
+      read-here = refl;
+      standard = refl;
+      broken = λ v. omega (arith, v .0 .0);
     }

@@ -1,6 +1,6 @@
 -- The dataspace as it is read is that of the specification.
 -- Entries are those of docs/DIFFERENCES.md, part one. Assumes nothing.
-use Prim.Native.Nat.{ℕ, zero, suc, _+_, _≤_, _<_}
+use Prim.Native.Nat.{ℕ, zero, suc, _+_, _≤_}
 use mathlib.Core.Path.{_≡_, refl, sym, ap, _∙_}
 use mathlib.Core.Bool.{Bool, true, false, not, _&&_, _||_}
 use mathlib.Core.List.{List, _∷_, _++_}
@@ -19,9 +19,9 @@ use Rattle.records.specs.declared.DataSpace.{DataSpace}
 use Rattle.parser.specs.declared.State.{State}
 use Rattle.ohdr_dataspace.specs.DataSpaces.{unlimited, dimension, dimensionsFrom, dimensions, kind, headerFlags, headerSizes, dataSpaceHeader, maximumSizes, dataSpaceSizes, dataSpace}
 use Rattle.standard.specs.Fields.{only, many}
-use Rattle.standard.specs.Tie.{Tied, tied-done, tied-number, tied-skip, tied-split, tied-check, tied-only, tied-bind, tied-more, tied-after, tied-bind-check}
+use Rattle.standard.specs.Tie.{Tied, tied-done, tied-number, tied-skip-number, tied-split, tied-check, tied-only, tied-bind, tied-more, tied-after, tied-bind-check}
 use Rattle.standard.specs.Versions.{marked, tied-by-version, tied-marked}
-use Rattle.standard.specs.Dataspaces.{Stored, not-stored, stored, storedSizes, Dataspace1, dataspace1, Dataspace2, dataspace2, ValidDataspace2, Dataspace, version-1, version-2, dataspaceMessage}
+use Rattle.standard.specs.Dataspaces.{Stored, not-stored, stored, storedSizes, Dataspace1, dataspace1, Dataspace2, dataspace2, Dataspace, version-1, version-2, dataspaceMessage}
 
 -- the sizes of the dimensions
 pub record SameSizes (ours : Dimensions) (theirs : List ℕ) : Type 0 where
@@ -33,12 +33,6 @@ abbrev pub SameMaximum : Dimensions → Stored → Type 0
 SameMaximum ours not-stored = ours ≡ noDimensions
 SameMaximum ours (stored sizes) = SameSizes ours sizes
 
--- what is not tested of the type (entry 26)
-pub record AlikeDataspace2 (x : Dataspace2) : Type 0 where
-  pub type-known : x .type ≤ 2
-  pub scalar : x .type ≡ 0 → x .dimensionality ≡ 0
-  pub simple : x .type ≡ 1 → 0 < x .dimensionality
-
 -- IV.A.2.b, version 1; reserved bits of the flags are kept, reserved bytes passed over (entry 25); permutation indices are refused (24)
 pub record SameDataspace1 (ours : DataSpace) (theirs : Dataspace1) : Type 0 where
   pub dimensionality : ours .dimensionality ≡ theirs .dimensionality
@@ -47,14 +41,13 @@ pub record SameDataspace1 (ours : DataSpace) (theirs : Dataspace1) : Type 0 wher
   pub dimension-size : SameSizes (ours .«dimension_size») (theirs .dimension-size)
   pub dimension-maximum-size : SameMaximum (ours .«dimension_max_size») (theirs .dimension-maximum-size)
 
--- version 2; reserved bits of the flags are kept (entry 25)
+-- version 2; reserved bits of the flags are kept (entry 25), and the type is not tested (26)
 pub record SameDataspace2 (ours : DataSpace) (theirs : Dataspace2) : Type 0 where
   pub dimensionality : ours .dimensionality ≡ theirs .dimensionality
   pub flags : ours .flags ≡ theirs .flags
   pub type : ours .kind ≡ options8.Some (theirs .type)
   pub dimension-size : SameSizes (ours .«dimension_size») (theirs .dimension-size)
   pub dimension-maximum-size : SameMaximum (ours .«dimension_max_size») (theirs .dimension-maximum-size)
-  pub valid : AlikeDataspace2 theirs → ValidDataspace2 theirs
 
 abbrev pub SameDataspace : DataSpace → Dataspace → Type 0
 SameDataspace ours (version-1 x) = SameDataspace1 ours x
@@ -102,12 +95,12 @@ unfolding storedSizes bind
 none-stored present n w g e t = rw e t
 
 -- what follows the header, in version 1 and in version 2
-sizes1-tied : (version dimensionality flags w : ℕ) → dimensionality ≤ 4 → bit flags 1 ≡ false
+sizes1-tied : (version dimensionality flags reserved reserved-2 w : ℕ) → dimensionality ≤ 4 → bit flags 1 ≡ false
     → Tied SameDataspace1 (dataSpaceSizes w (record { dimensionality = dimensionality; flags = flags; kind = options8.None }))
     (bind (many dimensionality (number w done)) (λ dimension-size. bind (storedSizes (bit flags 0) dimensionality w) (λ dimension-maximum-size. bind (storedSizes (bit flags 1) dimensionality w) (λ permutation-index.
-    done {A = Dataspace1} (record { version = version; dimensionality = dimensionality; flags = flags; dimension-size = dimension-size; dimension-maximum-size = dimension-maximum-size; permutation-index = permutation-index })))))
+    done {A = Dataspace1} (record { version = version; dimensionality = dimensionality; flags = flags; reserved = reserved; reserved-2 = reserved-2; dimension-size = dimension-size; dimension-maximum-size = dimension-maximum-size; permutation-index = permutation-index })))))
 unfolding dataSpaceSizes
-sizes1-tied version dimensionality flags w h e =
+sizes1-tied version dimensionality flags reserved reserved-2 w h e =
     tied-bind (dimensions-tied dimensionality w false h) (λ _ _ s.
     tied-bind (maximum-tied dimensionality w (bit flags 0) h) (λ _ _ m.
     none-stored (bit flags 1) dimensionality w _ e (tied-done (record { dimensionality = refl; flags = refl; no-type = refl; dimension-size = s; dimension-maximum-size = m }))))
@@ -120,7 +113,7 @@ unfolding dataSpaceSizes
 sizes2-tied version dimensionality flags type w h =
     tied-bind (dimensions-tied dimensionality w false h) (λ _ _ s.
     tied-bind (maximum-tied dimensionality w (bit flags 0) h) (λ _ _ m.
-    tied-done (record { dimensionality = refl; flags = refl; type = refl; dimension-size = s; dimension-maximum-size = m; valid = λ a. record { type-known = a .type-known; scalar = a .scalar; simple = a .simple } })))
+    tied-done (record { dimensionality = refl; flags = refl; type = refl; dimension-size = s; dimension-maximum-size = m })))
 
 flags-clear : (v : Bool) (b : Bool) → v ≡ true → not (v && b) ≡ true → b ≡ false
 flags-clear true b e h = not-true b h
@@ -138,7 +131,8 @@ version1-tied w v e =
     tied-bind-check (leb dimensionality 4) 9 (headerFlags version dimensionality) (dataSpaceSizes w) (λ h.
     tied-number (λ flags.
     tied-bind-check (not (eqb version 1 && bit flags 1)) 9 _ (dataSpaceSizes w) (λ c.
-    rw f (tied-split 1 4 (tied-skip (tied-skip (sizes1-tied version dimensionality flags w (leb-true dimensionality 4 h) (flags-clear (eqb version 1) (bit flags 1) f c)))))))))))))
+    rw f (tied-split 1 4 (tied-skip-number (λ reserved. tied-skip-number (λ reserved-2.
+    sizes1-tied version dimensionality flags reserved reserved-2 w (leb-true dimensionality 4 h) (flags-clear (eqb version 1) (bit flags 1) f c)))))))))))))
 
 version2-tied : (w v : ℕ) → v ≡ 2 → Tied SameDataspace2 (number 1 (λ n. only (eqb n v) (bind (check (eqb n 1 || eqb n 2) 9 (headerSizes n)) (dataSpaceSizes w)))) (dataspace2 w)
 unfolding dataspace2 bind kind

@@ -1,6 +1,6 @@
 -- The fill value message as it is read is that of the specification, but for one case.
 -- Entries are those of docs/DIFFERENCES.md, part one. Assumes nothing.
-use Prim.Native.Nat.{ℕ, _+_, _/_, _%_, _≤_, _<_}
+use Prim.Native.Nat.{ℕ, _+_, _≤_, _<_}
 use mathlib.Core.Path.{_≡_, refl}
 use mathlib.Core.Logic.{_⊎_, inl, inr}
 use mathlib.Core.Bool.{Bool, true, false, not, _&&_, _||_}
@@ -15,21 +15,14 @@ use Rattle.format.specs.Format.{done, refuse, number, pick, nothing, Stands}
 use Rattle.format.specs.Standing.{stands-check}
 use Rattle.ohdr_storage.specs.Storage.{fillValue, fill12, fill3, fill}
 use Rattle.standard.specs.Fields.{only}
-use Rattle.standard.specs.Tie.{Tied, TiedBut, Stood, tied-done, tied-number, tied-check, tied-only, tied-raw, tied-more, bind-stands}
+use Rattle.standard.specs.Tie.{Tied, TiedBut, Stood, tied-done, tied-number, tied-check, tied-only, tied-raw, bind-stands}
 use Rattle.standard.specs.Versions.{version-stands, marked, marked-stands, tied-marked}
-use Rattle.standard.specs.Storage.{sizeAndFillValue, FillFields12, fillFields12, FillValue12, fillValue12, ValidFillValue12, FillValue3, fillValue3, ValidFillValue3, FillValue, versions-1-and-2, version-3, fillValueMessage}
+use Rattle.standard.specs.Storage.{sizeAndFillValue, FillFields12, fillFields12, FillValue12, fillValue12, ValidFillValue12, fillValue3, FillValue, versions-1-and-2, version-3, fillValueMessage}
 
--- what is not tested of version 3 (entry 65)
-pub record AlikeFill3 (x : FillValue3) : Type 0 where
-  pub allocation-least : 1 ≤ x .flags % 4
-  pub write-time : x .flags / 4 % 4 ≤ 2
-  pub one-of-two : (bit (x .flags) 4 && bit (x .flags) 5) ≡ true → ⊥
-  pub reserved : x .flags / 64 % 4 ≡ 0
-
--- nothing of the message is handed out; its values are allowed ones
+-- nothing of the message is handed out; its values are allowed ones in versions 1 and 2, and not tested in version 3 (entry 65)
 abbrev pub ValidFill : FillValue → Type 0
 ValidFill (versions-1-and-2 x) = ValidFillValue12 x
-ValidFill (version-3 x) = AlikeFill3 x → ValidFillValue3 x
+ValidFill (version-3 x) = Unit {0}
 
 -- version 1 and no value defined: the size, which the specification has there, is not read (entry 64)
 pub data FillDiffers (s : List ℕ) (p : ℕ) : Type 0 where
@@ -48,14 +41,14 @@ value-by : (test : Bool) → Tied (λ _ _. Unit {0}) (pick test fillValue nothin
 value-by true = value-tied true refl
 value-by false = none-tied false refl
 
-fill3-tied : Tied (λ _ x. AlikeFill3 x → ValidFillValue3 x) (number 1 (λ version. only (eqb version 3) fill3)) fillValue3
+fill3-tied : Tied (λ _ _. Unit {0}) (number 1 (λ version. only (eqb version 3) fill3)) fillValue3
 unfolding fill3 fillValue3 marked
 fill3-tied =
     tied-number (λ version.
     tied-check (eqb version 3) 0 (λ e.
     tied-only (eqb version 3) e (
     tied-number (λ flags.
-    tied-marked (λ size-and-value. record { version = version; flags = flags; size-and-value = size-and-value }) (tied-more (λ _ _ _ a. record { allocation-least = a .allocation-least; write-time = a .write-time; one-of-two = a .one-of-two; reserved = a .reserved }) (value-by (bit flags 5)))))))
+    tied-marked (λ size-and-value. record { version = version; flags = flags; size-and-value = size-and-value }) (value-by (bit flags 5))))))
 
 either-true : (a b : Bool) → (a || b) ≡ true → (a ≡ true) ⊎ (b ≡ true)
 either-true true b e = inl refl

@@ -1,12 +1,12 @@
 -- The filter pipeline as it is read is that of the specification, but for names.
 -- Entries are those of docs/DIFFERENCES.md, part one. Assumes nothing.
-use Prim.Native.Nat.{ℕ, _+_, _-_, _*_, _/_, _%_, _≤_, _<_}
+use Prim.Native.Nat.{ℕ, _+_, _*_, _%_, _≤_, _<_}
 use mathlib.Core.Path.{_≡_, refl, ap}
 use mathlib.Core.Logic.{_⊎_, inl, inr}
 use mathlib.Core.Bool.{Bool, true, false, _||_}
 use mathlib.Core.List.{List}
 use native.Mathlib.Omega.{arith}
-use lib.ListN.{length, getD}
+use lib.ListN.{length}
 use lib.Dec.{eqb, leb, ltb}
 use borrow.Author.Tests.{eqb-true, eqb-false, lt-leb, ltb-true}
 use Rattle.format.specs.Bytes.{le}
@@ -17,18 +17,9 @@ use Rattle.ohdr_storage.specs.Storage.{paddedName, filter1, filter2, filterOf, 
 use Rattle.standard.specs.Fields.{absent, present, optional, raw, many}
 use Rattle.standard.specs.Tie.{Tied, TiedBut, Stood, Among, Every, but-times, tied-done, tied-raw, tied-skip-many, tied-skip-none, tied-skip-number, tied-more, onward, bind-stands}
 use Rattle.standard.specs.Versions.{version-stands, marked, marked-stands, tied-marked}
-use Rattle.standard.specs.Storage.{FilterFields1, filterFields1, FilterDescription1, filterDescription1, ValidFilterDescription1, PipelineFields1, pipelineFields1, FilterPipeline1, filterPipeline1, ValidFilterPipeline1}
-use Rattle.standard.specs.Storage.{FilterFields2, filterFields2, orNone, FilterDescription2, filterDescription2, ValidFilterDescription2, PipelineFields2, pipelineFields2, FilterPipeline2, filterPipeline2, ValidFilterPipeline2}
+use Rattle.standard.specs.Storage.{FilterFields1, filterFields1, FilterDescription1, filterDescription1, PipelineFields1, pipelineFields1, FilterPipeline1, filterPipeline1, ValidFilterPipeline1}
+use Rattle.standard.specs.Storage.{FilterFields2, filterFields2, orNone, FilterDescription2, filterDescription2, PipelineFields2, pipelineFields2, filterPipeline2, ValidFilterPipeline2}
 use Rattle.standard.specs.Storage.{FilterPipeline, version-1, version-2, filterPipelineMessage}
-
--- what is not tested of a filter (entry 76)
-pub record AlikeFilter1 (s : List ℕ) (x : FilterDescription1) : Type 0 where
-  pub flags-reserved : x .fields .flags / 2 ≡ 0
-  pub name-ended : 0 < x .fields .name-length → getD s (x .name .position + x .name .length - 1) 0 ≡ 0
-  pub padding-zeroes : (x .padding ≡ absent) ⊎ (x .padding ≡ present 0)
-
-pub record AlikeFilter2 (x : FilterDescription2) : Type 0 where
-  pub flags-reserved : x .fields .flags / 2 ≡ 0
 
 -- a filter of version 1 whose name is passed over by another length: one that is no multiple of 8 (entry 73), and one of 65,529 or more (74)
 pub data FilterDiffers1 (s : List ℕ) (p : ℕ) : Type 0 where
@@ -44,25 +35,18 @@ pub data PipelineDiffers (s : List ℕ) (p : ℕ) : Type 0 where
   in-version-1 : (m : ℕ) (x : PipelineFields1) → Stands s pipelineFields1 p m x → Among FilterDiffers1 filterDescription1 s (x .number-of-filters) m → PipelineDiffers s p
   in-version-2 : (m : ℕ) (x : PipelineFields2) → Stands s pipelineFields2 p m x → Among FilterDiffers2 filterDescription2 s (x .number-of-filters) m → PipelineDiffers s p
 
--- what holds of a filter that does not differ: it is a valid one, but for what is not tested
-abbrev pub ValidFilter1 : FilterDescription1 → Type 0
-ValidFilter1 x = (s : List ℕ) → AlikeFilter1 s x → ValidFilterDescription1 s x
+-- of what is asked of a filter of version 1 this alone is known of one that does not differ (76 has the rest): the length of its name
+abbrev pub NamePadded : FilterDescription1 → Type 0
+NamePadded x = x .fields .name-length % 8 ≡ 0
 
-abbrev pub ValidFilter2 : FilterDescription2 → Type 0
-ValidFilter2 x = AlikeFilter2 x → ValidFilterDescription2 x
-
--- nothing of a pipeline is handed out; its values are allowed ones
+-- nothing of a pipeline is handed out; the values of its own fields are allowed ones, and those of filters of version 2 are not tested (76)
 pub record ValidPipeline1 (x : FilterPipeline1) : Type 0 where
   pub fields-valid : ValidFilterPipeline1 x
-  pub filters-valid : Every ValidFilter1 (x .filter-description-list)
-
-pub record ValidPipeline2 (x : FilterPipeline2) : Type 0 where
-  pub fields-valid : ValidFilterPipeline2 x
-  pub filters-valid : Every ValidFilter2 (x .filter-description-list)
+  pub names-padded : Every NamePadded (x .filter-description-list)
 
 abbrev pub ValidPipeline : FilterPipeline → Type 0
 ValidPipeline (version-1 x) = ValidPipeline1 x
-ValidPipeline (version-2 x) = ValidPipeline2 x
+ValidPipeline (version-2 x) = ValidFilterPipeline2 x
 
 -- four bytes more where the number of values is odd
 padding-tied : (n : ℕ) → Tied (λ _ _. Unit {0}) (skip (4 * (n % 2)) nothing) (optional (eqb (n % 2) 1) 4)
@@ -75,20 +59,20 @@ padding-tied n = go (eqb (n % 2) 1) refl
 
 -- what follows the fields of version 1
 rest1-tied : (x : FilterFields1) → x .name-length % 8 ≡ 0
-    → Tied (λ _ y. ValidFilter1 y) (skip (x .name-length) (skip (4 * x .number-client-data-values) (skip (4 * (x .number-client-data-values % 2)) nothing)))
+    → Tied (λ _ y. NamePadded y) (skip (x .name-length) (skip (4 * x .number-client-data-values) (skip (4 * (x .number-client-data-values % 2)) nothing)))
     (bind (raw (x .name-length)) (λ name. bind (many (x .number-client-data-values) (number 4 done)) (λ client-data. bind (optional (eqb (x .number-client-data-values % 2) 1) 4) (λ padding. done {A = FilterDescription1} (record { fields = x; name = name; client-data = client-data; padding = padding })))))
 unfolding marked
 rest1-tied x e =
     tied-raw (λ name _.
     tied-skip-many 4 (x .number-client-data-values) (λ client-data.
     tied-marked (λ padding. record { fields = x; name = name; client-data = client-data; padding = padding })
-    (tied-more (λ _ _ _ s a. record { flags-reserved = a .flags-reserved; name-padded = e; name-ended = a .name-ended; padding-zeroes = a .padding-zeroes }) (padding-tied (x .number-client-data-values)))))
+    (tied-more (λ _ _ _. e) (padding-tied (x .number-client-data-values)))))
 
 -- what follows the fields of version 2, without a name
 rest2-tied : (x : FilterFields2) (k : ℕ) → k ≡ 0
-    → Tied (λ _ y. ValidFilter2 y) (skip 0 (skip (4 * x .number-client-data-values) nothing))
+    → Tied (λ _ _. Unit {0}) (skip 0 (skip (4 * x .number-client-data-values) nothing))
     (bind (raw k) (λ name. bind (many (x .number-client-data-values) (number 4 done)) (λ client-data. done {A = FilterDescription2} (record { fields = x; name = name; client-data = client-data }))))
-rest2-tied x k e = rw e (tied-raw (λ name _. tied-skip-many 4 (x .number-client-data-values) (λ client-data. tied-done (λ a. record { flags-reserved = a .flags-reserved }))))
+rest2-tied x k e = rw e (tied-raw (λ name _. tied-skip-many 4 (x .number-client-data-values) (λ client-data. tied-done tt)))
 
 -- a name length that is passed over as it stands
 padded-same : (n : ℕ) → n % 8 ≡ 0 → n < 65529 → paddedName n ≡ n
@@ -98,21 +82,21 @@ module _ (s : List ℕ) where
   -- a filter of version 1, by its name length
   filter1-by : (p m q : ℕ) (x : FilterFields1) → m ≡ p + 8 → Stands s filterFields1 p m x
       → Stands s (skip (paddedName (x .name-length)) (skip (4 * x .number-client-data-values) (skip (4 * (x .number-client-data-values % 2)) nothing))) m q tt
-      → FilterDiffers1 s p ⊎ Stood {A = Unit {0}} (λ _ y. ValidFilter1 y) filterDescription1 s p q tt
+      → FilterDiffers1 s p ⊎ Stood {A = Unit {0}} (λ _ y. NamePadded y) filterDescription1 s p q tt
   unfolding filterDescription1
   filter1-by p m q x d f h = by-le 65529 (x .name-length) (λ l. inl (from-65529 x i l)) (λ l. go (eqb (x .name-length % 8) 0) refl l)
     where
       i : Stands s filterFields1 p (p + 8) x
       i = rw (← d) f
 
-      go : (t : Bool) → eqb (x .name-length % 8) 0 ≡ t → x .name-length < 65529 → FilterDiffers1 s p ⊎ Stood {A = Unit {0}} (λ _ y. ValidFilter1 y) filterDescription1 s p q tt
+      go : (t : Bool) → eqb (x .name-length % 8) 0 ≡ t → x .name-length < 65529 → FilterDiffers1 s p ⊎ Stood {A = Unit {0}} (λ _ y. NamePadded y) filterDescription1 s p q tt
       go true e l =
           let c = eqb-true (x .name-length % 8) 0 e in
           let y = rest1-tied x c .ties s m q tt (rw (padded-same (x .name-length) c l) at h) in
           inr (onward y (λ b j. bind-stands s filterFields1 _ p m q x b f j))
       go false e l = inl (no-multiple-of-8 x i (eqb-false (x .name-length % 8) 0 e))
 
-  filter1-stands : (p q : ℕ) → Stands s filter1 p q tt → FilterDiffers1 s p ⊎ Stood {A = Unit {0}} (λ _ y. ValidFilter1 y) filterDescription1 s p q tt
+  filter1-stands : (p q : ℕ) → Stands s filter1 p q tt → FilterDiffers1 s p ⊎ Stood {A = Unit {0}} (λ _ y. NamePadded y) filterDescription1 s p q tt
   unfolding filter1 filterFields1
   filter1-stands p q h =
       let x : FilterFields1 = record { filter-identification-value = le s p 2; name-length = le s (p + 2) 2; flags = le s (p + 2 + 2) 2; number-client-data-values = le s (p + 2 + 2 + 2) 2 } in
@@ -120,14 +104,14 @@ module _ (s : List ℕ) where
       filter1-by p (p + 2 + 2 + 2 + 2) q x (omega arith) (h .0, (h .1 .0, (h .1 .1 .0, (h .1 .1 .1 .0, (refl, refl))))) (c .1)
 
   filter2-by : (p m q : ℕ) (x : FilterFields2) → Stands s filterFields2 p m x → x .name-length ≡ absent → Stands s (skip (4 * x .number-client-data-values) nothing) m q tt → m ≤ length s
-      → Stood {A = Unit {0}} (λ _ y. ValidFilter2 y) filterDescription2 s p q tt
+      → Stood {A = Unit {0}} (λ _ _. Unit {0}) filterDescription2 s p q tt
   unfolding filterDescription2
   filter2-by p m q x f e h r =
       let d : m + 0 ≡ m = omega arith in
       let i : Stands s (skip (4 * x .number-client-data-values) nothing) (m + 0) q tt = rw d h in
       onward (rest2-tied x (orNone (x .name-length)) (ap orNone e) .ties s m q tt (omega arith, i)) (λ b j. bind-stands s filterFields2 _ p m q x b f j)
 
-  filter2-stands : (p q : ℕ) → Stands s filter2 p q tt → FilterDiffers2 s p ⊎ Stood {A = Unit {0}} (λ _ y. ValidFilter2 y) filterDescription2 s p q tt
+  filter2-stands : (p q : ℕ) → Stands s filter2 p q tt → FilterDiffers2 s p ⊎ Stood {A = Unit {0}} (λ _ _. Unit {0}) filterDescription2 s p q tt
   unfolding filter2 filterFields2 optional bind
   filter2-stands p q h =
       let x : FilterFields2 = record { filter-identification-value = le s p 2; name-length = absent; flags = le s (p + 2) 2; number-client-data-values = le s (p + 2 + 2) 2 } in
@@ -135,10 +119,10 @@ module _ (s : List ℕ) where
       by-le 256 (le s p 2) (λ l. inl (with-a-name (le s p 2) (h .0, (refl, refl)) l))
       (λ l. inr (filter2-by p (p + 2 + 2 + 2) q x (h .0, rw (lt-leb 256 (le s p 2) l) (h .1 .0, (h .1 .1 .0, (refl, refl)))) refl (c .1) (h .1 .1 .0)))
 
-pub filter1-tied : TiedBut FilterDiffers1 (λ _ y. ValidFilter1 y) filter1 filterDescription1
+pub filter1-tied : TiedBut FilterDiffers1 (λ _ y. NamePadded y) filter1 filterDescription1
 filter1-tied = record { ties = λ s p q a h. filter1-stands s p q h }
 
-pub filter2-tied : TiedBut FilterDiffers2 (λ _ y. ValidFilter2 y) filter2 filterDescription2
+pub filter2-tied : TiedBut FilterDiffers2 (λ _ _. Unit {0}) filter2 filterDescription2
 filter2-tied = record { ties = λ s p q a h. filter2-stands s p q h }
 
 module _ (s : List ℕ) where
@@ -160,22 +144,22 @@ module _ (s : List ℕ) where
   filters1-stand : (p m q : ℕ) (x : PipelineFields1) → Stands s pipelineFields1 p m x → x .number-of-filters < 32 → x .reserved ≡ 0 → x .reserved-2 ≡ 0
       → Stands s (times (x .number-of-filters) filter1 nothing) m q tt → PipelineDiffers s p ⊎ Stood {A = Unit {0}} (λ _ y. ValidPipeline1 y) filterPipeline1 s p q tt
   unfolding filterPipeline1
-  filters1-stand p m q x f n z z2 h = go (listed ValidFilter1 FilterDiffers1 filter1 filterDescription1 pipelineFields1 (λ y. y .number-of-filters) (λ y l. record { fields = y; filter-description-list = l }) filter1-tied p m q x f h)
+  filters1-stand p m q x f n z z2 h = go (listed NamePadded FilterDiffers1 filter1 filterDescription1 pipelineFields1 (λ y. y .number-of-filters) (λ y l. record { fields = y; filter-description-list = l }) filter1-tied p m q x f h)
     where
-      go : Among FilterDiffers1 filterDescription1 s (x .number-of-filters) m ⊎ ((l : List FilterDescription1) × Every ValidFilter1 l × Stands s filterPipeline1 p q (record { fields = x; filter-description-list = l }))
+      go : Among FilterDiffers1 filterDescription1 s (x .number-of-filters) m ⊎ ((l : List FilterDescription1) × Every NamePadded l × Stands s filterPipeline1 p q (record { fields = x; filter-description-list = l }))
           → PipelineDiffers s p ⊎ Stood {A = Unit {0}} (λ _ y. ValidPipeline1 y) filterPipeline1 s p q tt
       go (inl d) = inl (in-version-1 m x f d)
-      go (inr y) = inr (record { value = record { fields = x; filter-description-list = y .0 }; stands = y .2; related = record { fields-valid = record { number-of-filters = omega arith; reserved = z; reserved-2 = z2 }; filters-valid = y .1 } })
+      go (inr y) = inr (record { value = record { fields = x; filter-description-list = y .0 }; stands = y .2; related = record { fields-valid = record { number-of-filters = omega arith; reserved = z; reserved-2 = z2 }; names-padded = y .1 } })
 
   filters2-stand : (p m q : ℕ) (x : PipelineFields2) → Stands s pipelineFields2 p m x → x .number-of-filters < 32
-      → Stands s (times (x .number-of-filters) filter2 nothing) m q tt → PipelineDiffers s p ⊎ Stood {A = Unit {0}} (λ _ y. ValidPipeline2 y) filterPipeline2 s p q tt
+      → Stands s (times (x .number-of-filters) filter2 nothing) m q tt → PipelineDiffers s p ⊎ Stood {A = Unit {0}} (λ _ y. ValidFilterPipeline2 y) filterPipeline2 s p q tt
   unfolding filterPipeline2
-  filters2-stand p m q x f n h = go (listed ValidFilter2 FilterDiffers2 filter2 filterDescription2 pipelineFields2 (λ y. y .number-of-filters) (λ y l. record { fields = y; filter-description-list = l }) filter2-tied p m q x f h)
+  filters2-stand p m q x f n h = go (listed (λ _. Unit {0}) FilterDiffers2 filter2 filterDescription2 pipelineFields2 (λ y. y .number-of-filters) (λ y l. record { fields = y; filter-description-list = l }) filter2-tied p m q x f h)
     where
-      go : Among FilterDiffers2 filterDescription2 s (x .number-of-filters) m ⊎ ((l : List FilterDescription2) × Every ValidFilter2 l × Stands s filterPipeline2 p q (record { fields = x; filter-description-list = l }))
-          → PipelineDiffers s p ⊎ Stood {A = Unit {0}} (λ _ y. ValidPipeline2 y) filterPipeline2 s p q tt
+      go : Among FilterDiffers2 filterDescription2 s (x .number-of-filters) m ⊎ ((l : List FilterDescription2) × Every (λ _. Unit {0}) l × Stands s filterPipeline2 p q (record { fields = x; filter-description-list = l }))
+          → PipelineDiffers s p ⊎ Stood {A = Unit {0}} (λ _ y. ValidFilterPipeline2 y) filterPipeline2 s p q tt
       go (inl d) = inl (in-version-2 m x f d)
-      go (inr y) = inr (record { value = record { fields = x; filter-description-list = y .0 }; stands = y .2; related = record { fields-valid = record { number-of-filters = omega arith }; filters-valid = y .1 } })
+      go (inr y) = inr (record { value = record { fields = x; filter-description-list = y .0 }; stands = y .2; related = record { number-of-filters = omega arith } })
 
   -- by the version
   whole1 : (p q : ℕ) → p + 1 ≤ length s → eqb (le s p 1) 1 ≡ true → PipelineDiffers s p ⊎ Stood {A = Unit {0}} (λ _ y. ValidPipeline1 y) filterPipeline1 s p q tt → Or p q
@@ -183,7 +167,7 @@ module _ (s : List ℕ) where
   whole1 p q r e (inl d) = inl d
   whole1 p q r e (inr x) = inr (record { value = version-1 (x .value); stands = version-stands s _ p q _ r (rw e (marked-stands s version-1 filterPipeline1 p q (x .value) (x .stands))); related = x .related })
 
-  whole2 : (p q : ℕ) → p + 1 ≤ length s → eqb (le s p 1) 1 ≡ false → eqb (le s p 1) 2 ≡ true → PipelineDiffers s p ⊎ Stood {A = Unit {0}} (λ _ y. ValidPipeline2 y) filterPipeline2 s p q tt → Or p q
+  whole2 : (p q : ℕ) → p + 1 ≤ length s → eqb (le s p 1) 1 ≡ false → eqb (le s p 1) 2 ≡ true → PipelineDiffers s p ⊎ Stood {A = Unit {0}} (λ _ y. ValidFilterPipeline2 y) filterPipeline2 s p q tt → Or p q
   unfolding filterPipelineMessage
   whole2 p q r e d (inl w) = inl w
   whole2 p q r e d (inr x) = inr (record { value = version-2 (x .value); stands = version-stands s _ p q _ r (rw (e, d) (marked-stands s version-2 filterPipeline2 p q (x .value) (x .stands))); related = x .related })

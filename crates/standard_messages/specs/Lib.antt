@@ -4,4 +4,5 @@ pub mod Layouts
 pub mod Fills
 pub mod Filters
 pub mod Dataspaces
+pub mod Rules
 pub mod Samples

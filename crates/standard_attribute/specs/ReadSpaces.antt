@@ -1,0 +1,189 @@
+-- A dataspace message of the standard is read, over the same bytes and with the same elements, where no value in it is refused. Assumes nothing.
+use Prim.Native.Nat.{ℕ, zero, suc, _+_, _≤_}
+use mathlib.Core.Path.{_≡_, refl, _∙_}
+use mathlib.Core.Logic.{_⊎_, inl, inr}
+use mathlib.Core.Bool.{Bool, true, false, _&&_, _||_}
+use mathlib.Core.List.{List, [], _∷_}
+use native.Mathlib.Omega.{arith}
+use lib.Dec.{eqb, leb}
+use lib.ListN.{length, replicate, set}
+use borrow.Author.Tests.{eqb-true, eq-eqb, le-leb}
+use Rattle.format.specs.Bits.{bit}
+use Rattle.format.specs.Bytes.{le}
+use Rattle.format.specs.Format.{Format, done, refuse, number, bind, pick, Stands}
+use Rattle.format.specs.Laws.{unique}
+use Rattle.format.specs.Standing.{stands-bind, stands-check}
+use Rattle.records.specs.declared.OptionU8.the-variants as options8
+use Rattle.records.specs.Defaults.{noDimensions}
+use Rattle.records.specs.declared.Dimensions.{Dimensions}
+use Rattle.records.specs.declared.DataSpace.{DataSpace}
+use Rattle.parser.specs.declared.State.{State}
+use Rattle.ohdr_dataspace.specs.declared.DataSpaceHeader.{DataSpaceHeader}
+use Rattle.ohdr_dataspace.specs.DataSpaces.{unlimited, dimension, dimensionsFrom, dimensions, kind, dataSpaceHeader, maximumSizes, dataSpaceOf, dataSpaceSizes, dataSpace}
+use Rattle.ohdr_dataspace.specs.DataSpaces as spaces
+use Rattle.standard.specs.Fields.{many}
+use Rattle.standard.specs.Tie.{bind-stands, Every}
+use Rattle.standard.specs.Versions.{byVersion, marked}
+use Rattle.standard.specs.Dataspaces.{Stored, not-stored, stored, storedSizes, Dataspace1, dataspace1, Dataspace2, dataspace2, Dataspace, version-1, version-2, dataspaceMessage}
+use Rattle.standard.specs.Attributes.{product, elements}
+use Rattle.standard_messages.specs.Dataspaces.{SameDataspace, dataspace-tied}
+use Rattle.standard_attribute.specs.Differences.{ElementsDiffer}
+use Rattle.standard_attribute.specs.TextValues.{sizesOf, EachStored, ReadSpace}
+use Rattle.standard_attribute.specs.Contents.{elements-by, elements-same}
+
+-- what the port tests of one size
+abbrev allowed : ℕ → Bool → ℕ → Bool
+allowed w maximum n = leb n 1000000 || (maximum && eqb n (unlimited w))
+
+size-allowed : (w n : ℕ) → n ≤ 1000000 → allowed w false n ≡ true
+size-allowed w n h = rw (le-leb n 1000000 h)
+
+maximum-allowed : (w n : ℕ) → (n ≤ 1000000) ⊎ (n ≡ unlimited w) → allowed w true n ≡ true
+maximum-allowed w n (inl h) = rw (le-leb n 1000000 h)
+maximum-allowed w n (inr e) = rw (eq-eqb n (unlimited w) e) (go (leb n 1000000))
+  where
+    go : (t : Bool) → (t || true) ≡ true
+    go true = refl
+    go false = refl
+
+every : {P Q : ℕ → Type 0} → ((n : ℕ) → P n → Q n) → (ns : List ℕ) → Every P ns → Every Q ns
+every f [] h = tt
+every f (n ∷ ns) h = (f n (h .0), every f ns (h .1))
+
+module _ (s : List ℕ) (w : ℕ) where
+  -- a format of ours has a reading from p to q
+  abbrev Reads : {A : Type 0} → Format A → ℕ → ℕ → Type 0
+  Reads {A} F p q = (a : A) × Stands s F p q a
+
+  sizes-read : (n : ℕ) (maximum : Bool) (i : ℕ) (sizes : List ℕ) (p q : ℕ) (xs : List ℕ) → Stands s (many n (number w done)) p q xs → Every (λ x. allowed w maximum x ≡ true) xs
+      → Reads (dimensionsFrom n w maximum i sizes) p q
+  unfolding many dimensionsFrom dimension
+  sizes-read zero maximum i sizes p q xs h a = (sizes, (h .0, refl))
+  sizes-read (suc n) maximum i sizes p q xs h a =
+      let b = stands-bind s (number w done) (λ x. bind (many n (number w done)) (λ more. done (x ∷ more))) p q xs h in
+      let c = stands-bind s (many n (number w done)) (λ more. done (b .1 ∷ more)) (b .0) q xs (b .3) in
+      let d : Every (λ x. allowed w maximum x ≡ true) (b .1 ∷ c .1) = rw (← c .3 .1) at a in
+      let k : Stands s (many n (number w done)) (b .0) q (c .1) = rw (c .3 .0) at (c .2) in
+      let r = sizes-read n maximum (i + 1) (set sizes i (b .1)) (b .0) q (c .1) k (d .1) in
+      (r .0, bind-stands s (dimension w maximum) (λ size. dimensionsFrom n w maximum (i + 1) (set sizes i size)) p (b .0) q (b .1) (r .0) (b .2 .0, rw (b .2 .1 .1, d .0) (b .2 .1 .0, refl)) (r .1))
+
+  dimensions-read : (n : ℕ) (maximum : Bool) (p q : ℕ) (xs : List ℕ) → Stands s (many n (number w done)) p q xs → Every (λ x. allowed w maximum x ≡ true) xs
+      → Reads (dimensions n w maximum) p q
+  unfolding dimensions
+  dimensions-read n maximum p q xs h a =
+      let r = sizes-read n maximum 0 (replicate 4 0) p q xs h a in (
+        record { sizes = r .0; count = n },
+        bind-stands s (dimensionsFrom n w maximum 0 (replicate 4 0)) (λ sizes. done {A = Dimensions} (record { sizes = sizes; count = n })) p q q (r .0) (record { sizes = r .0; count = n }) (r .1) (refl, refl),
+      )
+
+  maximum-read : (n : ℕ) (present : Bool) (p q : ℕ) (x : Stored) → Stands s (storedSizes present n w) p q x → EachStored (λ x. allowed w true x ≡ true) x
+      → Reads (maximumSizes n w present) p q
+  unfolding storedSizes maximumSizes
+  maximum-read n true p q x h a =
+      let b = stands-bind s (many n (number w done)) (λ sizes. done (stored sizes)) p q x h in
+      let d : EachStored (λ x. allowed w true x ≡ true) (stored (b .1)) = rw (← b .3 .1) at a in
+      dimensions-read n true p q (b .1) (rw (b .3 .0) at (b .2)) d
+  maximum-read n false p q x h a = (noDimensions, (h .0, refl))
+
+  -- what stands after the header
+  rest-read : (h : DataSpaceHeader) (p m q : ℕ) (ns : List ℕ) (x : Stored) → Stands s (many (h .dimensionality) (number w done)) p m ns
+      → Stands s (storedSizes (bit (h .flags) 0) (h .dimensionality) w) m q x → Every (λ n. n ≤ 1000000) ns → EachStored (λ n. (n ≤ 1000000) ⊎ (n ≡ unlimited w)) x
+      → Reads (dataSpaceSizes w h) p q
+  unfolding dataSpaceSizes
+  rest-read h p m q ns x i j a b =
+      let n = h .dimensionality in
+      let M = maximumSizes n w (bit (h .flags) 0) in
+      let d = dimensions-read n false p m ns i (every (size-allowed w) ns a) in
+      let e = maximum-read n (bit (h .flags) 0) m q x j (stored-allowed x b) in
+      let r = dataSpaceOf h (d .0) (e .0) in (
+        r,
+        bind-stands s (dimensions n w false) (λ sizes. bind M (λ maximum. done (dataSpaceOf h sizes maximum))) p m q (d .0) r (d .1)
+            (bind-stands s M (λ maximum. done (dataSpaceOf h (d .0) maximum)) m q q (e .0) r (e .1) (refl, refl)),
+      )
+    where
+      stored-allowed : (x : Stored) → EachStored (λ n. (n ≤ 1000000) ⊎ (n ≡ unlimited w)) x → EachStored (λ n. allowed w true n ≡ true) x
+      stored-allowed not-stored b = tt
+      stored-allowed (stored ns) b = every (maximum-allowed w) ns b
+
+  -- permutation indices that are not stored
+  none-stored : (present : Bool) (n p q : ℕ) (x : Stored) → Stands s (storedSizes present n w) p q x → x ≡ not-stored → (present ≡ false) × (p ≡ q)
+  unfolding storedSizes
+  none-stored true n p q x h e =
+      let b = stands-bind s (many n (number w done)) (λ sizes. done (stored sizes)) p q x h in
+      let d : stored (b .1) ≡ not-stored = b .3 .1 ∙ e in
+      let z : _≡_ {A = ℕ} 0 1 = cc in
+      absurd (omega arith)
+  none-stored false n p q x h e = (refl, h .0)
+
+  -- the header, in version 1 and in version 2
+  header1-read : (p : ℕ) → p + 1 ≤ length s → le s p 1 ≡ 1 → p + 1 + 1 ≤ length s → le s (p + 1) 1 ≤ 4 → p + 1 + 1 + 1 ≤ length s → bit (le s (p + 1 + 1) 1) 1 ≡ false
+      → p + 1 + 1 + 1 + 1 + 4 ≤ length s
+      → Stands s dataSpaceHeader p (p + 1 + 1 + 1 + 1 + 4) (record { dimensionality = le s (p + 1) 1; flags = le s (p + 1 + 1) 1; kind = options8.None })
+  unfolding dataSpaceHeader kind bind
+  header1-read p a v b n c f d = (a, rw v (b, rw (le-leb (le s (p + 1) 1) 4 n) (c, rw f (omega arith, (omega arith, refl)))))
+
+  header2-read : (p : ℕ) → p + 1 ≤ length s → le s p 1 ≡ 2 → p + 1 + 1 ≤ length s → le s (p + 1) 1 ≤ 4 → p + 1 + 1 + 1 ≤ length s → p + 1 + 1 + 1 + 1 ≤ length s
+      → Stands s dataSpaceHeader p (p + 1 + 1 + 1 + 1) (record { dimensionality = le s (p + 1) 1; flags = le s (p + 1 + 1) 1; kind = options8.Some (le s (p + 1 + 1 + 1) 1) })
+  unfolding dataSpaceHeader kind bind
+  header2-read p a v b n c d = (a, rw v (b, rw (le-leb (le s (p + 1) 1) 4 n) (c, (d, (refl, refl)))))
+
+  -- header and sizes
+  whole-read : (p m q : ℕ) (h : DataSpaceHeader) → Stands s dataSpaceHeader p m h → Reads (dataSpaceSizes w h) m q → Reads (bind dataSpaceHeader (dataSpaceSizes w)) p q
+  whole-read p m q h i r = (r .0, bind-stands s dataSpaceHeader (dataSpaceSizes w) p m q h (r .0) i (r .1))
+
+  version1-read : (p q : ℕ) (x : Dataspace1) → Stands s (dataspace1 w) p q x → ReadSpace w (version-1 x) → Reads (bind dataSpaceHeader (dataSpaceSizes w)) p q
+  unfolding dataspace1
+  version1-read p q x h r =
+      let n = le s (p + 1) 1 in
+      let flags = le s (p + 1 + 1) 1 in
+      let c = stands-check s (eqb (le s p 1) 1) 0 _ (p + 1) q x (h .1) in
+      let b = stands-bind s (many n (number w done)) _ (p + 1 + 1 + 1 + 1 + 4) q x (c .1 .1 .1 .1 .1) in
+      let d = stands-bind s (storedSizes (bit flags 0) n w) _ (b .0) q x (b .3) in
+      let g = stands-bind s (storedSizes (bit flags 1) n w) _ (d .0) q x (d .3) in
+      let a = rw (← g .3 .1) at r in
+      let e = none-stored (bit flags 1) n (d .0) (g .0) (g .1) (g .2) (a .no-permutation) in
+      let u : d .0 ≡ q = omega (arith, e .1, g .3 .0) in
+      whole-read p (p + 1 + 1 + 1 + 1 + 4) q _
+      (header1-read p (h .0) (eqb-true (le s p 1) 1 (c .0)) (c .1 .0) (a .few) (c .1 .1 .0) (e .0) (c .1 .1 .1 .1 .0))
+      (rest-read _ (p + 1 + 1 + 1 + 1 + 4) (b .0) q (b .1) (d .1) (b .2) (rw u at (d .2)) (a .sizes) (a .maximum-sizes))
+
+  version2-read : (p q : ℕ) (x : Dataspace2) → Stands s (dataspace2 w) p q x → ReadSpace w (version-2 x) → Reads (bind dataSpaceHeader (dataSpaceSizes w)) p q
+  unfolding dataspace2
+  version2-read p q x h r =
+      let n = le s (p + 1) 1 in
+      let flags = le s (p + 1 + 1) 1 in
+      let c = stands-check s (eqb (le s p 1) 2) 0 _ (p + 1) q x (h .1) in
+      let b = stands-bind s (many n (number w done)) _ (p + 1 + 1 + 1 + 1) q x (c .1 .1 .1 .1) in
+      let d = stands-bind s (storedSizes (bit flags 0) n w) _ (b .0) q x (b .3) in
+      let a = rw (← d .3 .1) at r in
+      whole-read p (p + 1 + 1 + 1 + 1) q _
+      (header2-read p (h .0) (eqb-true (le s p 1) 2 (c .0)) (c .1 .0) (a .few) (c .1 .1 .0) (c .1 .1 .1 .0))
+      (rest-read _ (p + 1 + 1 + 1 + 1) (b .0) q (b .1) (d .1) (b .2) (rw (d .3 .0) at (d .2)) (a .sizes) (a .maximum-sizes))
+
+  message-read : (p q : ℕ) (x : Dataspace) → Stands s (dataspaceMessage w) p q x → ReadSpace w x → Reads (bind dataSpaceHeader (dataSpaceSizes w)) p q
+  unfolding dataspaceMessage byVersion marked
+  message-read p q x h r = go (eqb (h .1) 1) (eqb (h .1) 2) (h .3)
+    where
+      go : (a b : Bool) → Stands s (pick a (marked version-1 (dataspace1 w)) (pick b (marked version-2 (dataspace2 w)) (refuse 0))) p q x → Reads (bind dataSpaceHeader (dataSpaceSizes w)) p q
+      go true b i =
+          let c = stands-bind s (dataspace1 w) (λ y. done (version-1 y)) p q x i in
+          version1-read p q (c .1) (rw (c .3 .0) at (c .2)) (rw (← c .3 .1) at r)
+      go false true i =
+          let c = stands-bind s (dataspace2 w) (λ y. done (version-2 y)) p q x i in
+          version2-read p q (c .1) (rw (c .3 .0) at (c .2)) (rw (← c .3 .1) at r)
+      go false false i = absurd i
+
+-- It has as many elements as the standard's, unless the two count them otherwise.
+pub space-read : (s : List ℕ) (state : State) (p q : ℕ) (x : Dataspace) → Stands s (dataspaceMessage (state .«size_of_lengths»)) p q x → ReadSpace (state .«size_of_lengths») x
+    → (ElementsDiffer x → ⊥) → (d : DataSpace) × Stands s (dataSpace state) p q d × (spaces.elements d ≡ elements x)
+unfolding dataSpace
+space-read s state p q x h r f =
+    let d = message-read s (state .«size_of_lengths») p q x h r in
+    let y = dataspace-tied state .ties s p q (d .0) (d .1) in
+    let e = unique s (dataspaceMessage (state .«size_of_lengths»)) p q q (y .value) x (y .stands) h .1 in
+    let i : SameDataspace (d .0) x = rw e at (y .related) in
+    (d .0, d .1, elements-same (d .0) x i (counted (elements-by x)))
+  where
+    counted : ElementsDiffer x ⊎ (product (sizesOf x) ≡ elements x) → product (sizesOf x) ≡ elements x
+    counted (inl d) = absurd (f d)
+    counted (inr e) = e

@@ -1,0 +1,107 @@
+-- A text of each version of the attribute message: what `text-value` asks is met, and its value is the standard's. Assumes nothing.
+use Prim.Native.Nat.{ℕ}
+use mathlib.Core.Path.{refl}
+use mathlib.Core.Logic.{inr}
+use mathlib.Core.List.{List, [], _∷_, _++_}
+use native.Mathlib.Omega.{arith}
+use lib.ListN.{replicate}
+use Rattle.format.specs.Bytes.{le}
+use Rattle.format.specs.Format.{read, bind}
+use Rattle.format.specs.Laws.{sound}
+use Rattle.parser.specs.declared.State.{State}
+use Rattle.standard.specs.Fields.{many, raw}
+use Rattle.standard.specs.Versions.{byVersion, marked}
+use Rattle.standard.specs.Datatypes.{datatypeHeader, datatype, no-properties, properties, datatypeOf, datatypeMessage}
+use Rattle.standard.specs.Dataspaces.{not-stored, stored, storedSizes, dataspace1, dataspace2, version-1, version-2, dataspaceMessage}
+use Rattle.standard.specs.Attributes.{sizes1, sizes3, sized, described, product, Attribute, of-version-1, of-version-3, attribute1, attribute3, attributeMessage}
+use Rattle.standard_attribute.specs.Differences.{ElementsDiffer, scalar-with-sizes, null}
+use Rattle.standard_attribute.specs.TextValues.{describedOf, TextValue, ValueStands}
+use Rattle.standard_attribute.specs.Values.{text-value}
+
+-- lengths of 2 bytes
+abbrev state : State
+state = record { «size_of_lengths» = 2; «size_of_offsets» = 2; «end_of_file_address» = 0 }
+
+-- version 1, a name of 15 bytes and its zero, a string of 2 bytes, a dataspace of version 1 without dimensions, and the text `v`
+abbrev file1 : List ℕ
+file1 =
+    (1 ∷ 0 ∷ 16 ∷ 0 ∷ 8 ∷ 0 ∷ 8 ∷ 0 ∷ []) ++ replicate 15 0x6E ++ (0 ∷ [])
+    ++ (0x13 ∷ 0 ∷ 0 ∷ 0 ∷ 2 ∷ 0 ∷ 0 ∷ 0 ∷ []) ++ (1 ∷ 0 ∷ 0 ∷ 0 ∷ 0 ∷ 0 ∷ 0 ∷ 0 ∷ []) ++ (0x76 ∷ 0 ∷ [])
+
+abbrev text1 : Attribute
+text1 =
+    of-version-1 (record {
+      sizes = record { version = 1; reserved = 0; name-size = 16; datatype-size = 8; dataspace-size = 8 };
+      name = record { position = 8; length = 16 };
+      name-padding = 0;
+      described = record {
+        datatype = datatype (record { class-and-version = 0x13; class-bit-field = 0; size = 2 }) no-properties;
+        datatype-padding = 0;
+        dataspace = version-1 (record { version = 1; dimensionality = 0; flags = 0; reserved = 0; reserved-2 = 0; dimension-size = []; dimension-maximum-size = not-stored; permutation-index = not-stored });
+        dataspace-padding = 0;
+      };
+      «data» = record { position = 40; length = 2 };
+    })
+
+met1 : TextValue 2 text1
+met1 =
+    record {
+      name-size = omega arith;
+      name-padding = λ _. refl;
+      described = record {
+        string = refl;
+        some-size = omega arith;
+        small-size = omega arith;
+        dataspace = record { few = omega arith; sizes = tt; maximum-sizes = tt; no-permutation = refl };
+        elements = simple;
+      };
+    }
+  where
+    simple : ElementsDiffer (describedOf text1 .dataspace) → ⊥
+    simple = elim [ ]
+
+pub a-text-of-version-1 : ValueStands file1 state 0 42 (record { position = 8; length = 16 }) (record { position = 40; length = 2 })
+unfolding read bind le many raw byVersion marked datatypeHeader properties datatypeOf datatypeMessage storedSizes dataspace1 dataspace2 dataspaceMessage sizes1 sizes3 sized described product attribute1 attribute3 attributeMessage
+a-text-of-version-1 = text-value file1 state 4095 1 0 42 text1 (sound file1 (attributeMessage 4095 1 2) 0 42 text1 refl) met1
+
+-- version 3, a name `n`, strings of 2 bytes, a dataspace of version 2 with a size of 2 and an unlimited maximum, and the texts `a` and `b`
+abbrev file3 : List ℕ
+file3 =
+    (3 ∷ 0 ∷ 2 ∷ 0 ∷ 8 ∷ 0 ∷ 8 ∷ 0 ∷ 0 ∷ 0x6E ∷ 0 ∷ []) ++ (0x13 ∷ 0 ∷ 0 ∷ 0 ∷ 2 ∷ 0 ∷ 0 ∷ 0 ∷ []) ++ (2 ∷ 1 ∷ 1 ∷ 1 ∷ 2 ∷ 0 ∷ 255 ∷ 255 ∷ [])
+    ++ (0x61 ∷ 0 ∷ 0x62 ∷ 0 ∷ [])
+
+abbrev text3 : Attribute
+text3 =
+    of-version-3 (record {
+      sizes = record { version = 3; flags = 0; name-size = 2; datatype-size = 8; dataspace-size = 8; name-character-set-encoding = 0 };
+      name = record { position = 9; length = 2 };
+      described = record {
+        datatype = datatype (record { class-and-version = 0x13; class-bit-field = 0; size = 2 }) no-properties;
+        datatype-padding = 0;
+        dataspace = version-2 (record { version = 2; dimensionality = 1; flags = 1; type = 1; dimension-size = 2 ∷ []; dimension-maximum-size = stored (65535 ∷ []) });
+        dataspace-padding = 0;
+      };
+      «data» = record { position = 27; length = 4 };
+    })
+
+met3 : TextValue 2 text3
+met3 =
+    record {
+      name-size = omega arith;
+      name-padding = tt;
+      described = record {
+        string = refl;
+        some-size = omega arith;
+        small-size = omega arith;
+        dataspace = record { few = omega arith; sizes = (omega arith, tt); maximum-sizes = (inr refl, tt); no-permutation = refl };
+        elements = simple;
+      };
+    }
+  where
+    simple : ElementsDiffer (describedOf text3 .dataspace) → ⊥
+    simple (scalar-with-sizes e f) = omega arith
+    simple (null e) = omega arith
+
+pub a-text-of-version-3 : ValueStands file3 state 0 31 (record { position = 9; length = 2 }) (record { position = 27; length = 4 })
+unfolding read bind le many raw byVersion marked datatypeHeader properties datatypeOf datatypeMessage storedSizes dataspace1 dataspace2 dataspaceMessage sizes1 sizes3 sized described product attribute1 attribute3 attributeMessage
+a-text-of-version-3 = text-value file3 state 4095 1 0 31 text3 (sound file3 (attributeMessage 4095 1 2) 0 31 text3 refl) met3
