@@ -18,6 +18,13 @@
  *     DOWRINGAF_LISTING_STACK are bounds on what was measured at the deepest (firmware/stack.c);
  *     the other two functions use less than the first.
  *
+ * Time is not proved either. For one entry of a header the file is read forwards, up to its end at
+ * most, so that a call takes at most in proportion to the entries times the bytes of the file. There
+ * are at most 4,096 entries, and with r rows lent at most r + 1 messages are read. Attributes whose
+ * types fail at the file's last byte reach this: 4,096 of them took 0.3 s in 65,536 bytes, 3 s in
+ * 1,048,576 and up to 157 s in 16,777,216 (docs/DECISIONS.md, "The time of a call"). Where an answer
+ * is due within a time, bound file_bytes or table_words.
+ *
  * Every struct below is made of 64-bit words, without padding.
  */
 #ifndef DOWRINGAF_H
@@ -68,7 +75,7 @@ enum dowringaf_refusal {
  */
 enum dowringaf_row {
     DOWRINGAF_ROW_TYPE = 0,          /* the message's type */
-    DOWRINGAF_ROW_FLAGS = 1,         /* the entry's flags, those that are named */
+    DOWRINGAF_ROW_FLAGS = 1,         /* the entry's flags: 0, 1, 4 or 5 */
     DOWRINGAF_ROW_SIZE = 2,          /* the size that the entry gives */
     DOWRINGAF_ROW_BODY = 3,          /* where its body begins */
     DOWRINGAF_ROW_NAME = 4,          /* 1 with an attribute's name, 0 without */

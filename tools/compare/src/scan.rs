@@ -1,9 +1,13 @@
 //! Attributes that stand outside the comparison and leave no trace in either answer: a type of more
 //! than 32 levels, and size times elements of 2^64 or more.
+//!
+//! Every field that the Rust tests before that is tested here too, so that a header which is refused
+//! or an attribute that fails before it gets so far stays in the comparison.
 
 use crate::input::{Input, get};
 
 const LEVELS: u32 = 32;
+const LONGEST_NAME: usize = 4096;
 const STRING_LIMIT_V1: usize = 255;
 const STRING_LIMIT_V3: usize = 4095;
 const LARGEST_SIZE: u64 = 1_000_000;
@@ -57,6 +61,9 @@ impl<'a> Scan<'a> {
         let version = self.number(1)?;
         self.take(1)?;
         let name_size = self.number(2)? as usize;
+        if (version != 1 && version != 3) || name_size > LONGEST_NAME {
+            return None;
+        }
         self.take(if version == 3 { 5 } else { 4 })?;
         self.take(name_size)?;
         if version == 1 && name_size < 8 {
