@@ -1,3 +1,3 @@
-pub mod Named
+pub mod Lookup
 pub mod Facts
 pub mod Unique

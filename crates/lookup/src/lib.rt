@@ -1,8 +1,12 @@
 // The first attribute of a table whose name is the wanted one.
+use records::OptionPart;
 use records::Refusal;
+use row::row_at;
+use row::rows_in;
 ghost use Prim.Native.Nat.{_<_, _/_};
 ghost use lib.ListN.{length};
-ghost use Rattle.lookup.specs.Named.{NameAt, Looked};
+ghost use Rattle.row.specs.Rows.{rowWords, rowAt};
+ghost use Rattle.lookup.specs.Lookup.{NameAt, Looked};
 
 // The row found, nothing, or a row count that the table has no rows for.
 pub enum LookupAnswer {
@@ -20,39 +24,34 @@ enum RowName {
 // Where the name of row i stands, if the row is an attribute and its name has `wanted` bytes, all
 // of them in the file. The room after the position is tested, so that no sum can wrap.
 fn row_name(file: &[u8], table: &[u64], i: usize, wanted: usize) -> RowName
-    requires { ⌜ i < length (now table) / 10 ⌝ }
-    ensures { λ r. ⌜ NameAt (now (file .entry)) (now (table .entry)) wanted i r ⌝ }
+    requires { ⌜ i < length (now table) / rowWords ⌝ }
+    ensures { λ r. ⌜ NameAt (now (file .entry)) (rowAt (now (table .entry)) i) wanted r ⌝ }
 {
-    let row = i * 10;
-    let kind = table[row];
-    if kind != 12 {
+    let row = row_at(table, i);
+    if row.kind != 12 {
         return RowName::Nothing;
     }
-    let present = table[row + 4];
-    if present != 1 {
+    let name = row.name;
+    let OptionPart::Some(part) = name else {
+        return RowName::Nothing;
+    };
+    if part.length != wanted {
         return RowName::Nothing;
     }
-    let bytes = table[row + 6] as usize;
-    if bytes != wanted {
+    if file.len() < part.position {
         return RowName::Nothing;
     }
-    let position = table[row + 5] as usize;
-    if file.len() < position {
+    if file.len() - part.position < wanted {
         return RowName::Nothing;
     }
-    if file.len() - position < wanted {
-        return RowName::Nothing;
-    }
-    RowName::At(position)
+    RowName::At(part.position)
 }
 
-// The first of the `rows` rows of the table whose name in the file is `name`. A row is ten words:
-// type, flags, size, body position, name present, name position, name length, part present, part
-// position, part length.
+// The first of the `rows` rows of the table whose name in the file is `name`.
 pub fn lookup(file: &[u8], table: &[u64], rows: usize, name: &[u8]) -> LookupAnswer
     ensures { λ r. ⌜ Looked (now (file .entry)) (now (table .entry)) rows (now (name .entry)) r ⌝ }
 {
-    if table.len() / 10 < rows {
+    if rows_in(table) < rows {
         return LookupAnswer::Refused(Refusal::Table);
     }
     let mut answer = LookupAnswer::Nothing;

@@ -1,5 +1,5 @@
-use Rattle.lookup.specs.Facts.{Agree, room, nameless, differs, bears, unfound}
-use Rattle.lookup.specs.Named.{NoneBelow}
+use Rattle.lookup.specs.Facts.{Agree, room, nameless, differs, bears}
+use Rattle.lookup.specs.Lookup.{NoneBelow}
 use lib.ListN.{length}
 use borrow.Author.Count.{below-more}
 use borrow.Author.Needs.{needs}
@@ -21,6 +21,9 @@ Inv-rows file table rows name answer₀ next₀ answer next = (next ≤ rows) ×
 
 abbrev μ-rows : tie.MeasureT-rows
 μ-rows file table rows name answer₀ next₀ answer next = rows - next
+
+rows-in-requires : tie.Need-rows-in-requires Inv-loop μ-loop Inv-rows μ-rows
+rows-in-requires c κs = search needs
 
 returns : tie.Need-returns Inv-loop μ-loop Inv-rows μ-rows
 returns c = (refl, omega arith)
@@ -47,7 +50,7 @@ rows-again : tie.Need-rows-again Inv-loop μ-loop Inv-rows μ-rows
 rows-again c = (search needs, below-more _ _ (c .before .before .before .before .rows .inv .1) (nameless (c .before .before .row-name .ensures) (c .enum-told .given .1)), c .before .before .before .before .rows .inv .2)
 
 loop-holds : tie.Need-loop-holds Inv-loop μ-loop Inv-rows μ-rows
-loop-holds c = (room _ _ _ _ _ _ (c .before .before .before .row-name .ensures) (c .before .position .given .1), search needs, search needs)
+loop-holds c = (room _ _ _ _ _ (c .before .before .before .row-name .ensures) (c .before .position .given .1), search needs, search needs)
 
 add-if2 : tie.Need-add-if2 Inv-loop μ-loop Inv-rows μ-rows
 add-if2 c = search needs
@@ -74,7 +77,7 @@ loop-again : tie.Need-loop-again Inv-loop μ-loop Inv-rows μ-rows
 loop-again c = (search needs, search needs, below-more _ _ (c .before .before .before .before .loop .inv .2) (c .if2 .left))
 
 returns-2 : tie.Need-returns-2 Inv-loop μ-loop Inv-rows μ-rows
-returns-2 c = unfound (c .before .rows .inv .2) (search needs) (λ j l. c .before .rows .inv .1 j (omega arith))
+returns-2 c = rw (c .before .rows .inv .2) (search needs, λ j l. c .before .rows .inv .1 j (omega arith))
 
 returns-3 : tie.Need-returns-3 Inv-loop μ-loop Inv-rows μ-rows
 returns-3 c = (search needs, search needs, bears (c .before .before .before .before .before .row-name .ensures) (c .before .before .before .position .given .1) (λ j l. c .before .loop .inv .2 j (omega arith)), c .before .before .before .before .before .before .before .rows .inv .1)
@@ -87,6 +90,7 @@ lookup-spec =
     μ-loop
     Inv-rows
     μ-rows
+    rows-in-requires
     returns
     rows-holds
     add-next
