@@ -9,7 +9,7 @@ use Rattle.records.specs.declared.Part.{Part}
 use Rattle.data_object.specs.declared.DataObject.{DataObject}
 use Rattle.data_object.specs.Decoded.{Decoded, bytesOf}
 use Rattle.lookup.specs.declared.LookupAnswer.{LookupAnswer}
-use Rattle.lookup.specs.Named.{Looked}
+use Rattle.lookup.specs.Lookup.{Looked}
 use Rattle.firmware.specs.declared.PartWords.{PartWords}
 use Rattle.firmware.specs.declared.DataObjectWords.{DataObjectWords}
 use Rattle.firmware.specs.declared.LookupWords.{LookupWords}

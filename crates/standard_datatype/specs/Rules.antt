@@ -70,7 +70,7 @@ number-untested =
       broken = λ v. omega (arith, v .0);
     }
 
--- new: The parent type of a variable-length string. It is a string here.
+-- 86. It is a string here.
 pub parent-type-untested : NotTested ValidParentType
 unfolding read bind le datatypeHeader properties datatypeOf datatypeMessage knownClass knownType dataTypeHeader plain listProperties ours.properties typeLayer dataType
 parent-type-untested =
