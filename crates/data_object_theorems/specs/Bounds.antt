@@ -1,4 +1,4 @@
--- Each dataspace in a reading, an attribute's included, has at most four sizes, each at most 1,000,000. Assumes nothing.
+-- Each dataspace in a reading, an attribute's included, has at most four sizes, each at most 1,000,000: its format asks for it. Assumes nothing.
 use Prim.Native.Nat.{ℕ, _+_, _-_}
 use mathlib.Core.Path.{_≡_, sym}
 use mathlib.Core.Logic.{_⊎_, inl, inr}
@@ -24,8 +24,9 @@ use Rattle.ohdr_attribute.specs.Without.{With, Without, with-or-without}
 use Rattle.ohdr_datatype.specs.DataTypes.{dataType, typeLevels}
 use Rattle.ohdr_entry.specs.Entries.{body, plainBody, attributeBody}
 use Rattle.ohdr_entry.specs.Entered.{bodied}
-use Rattle.data_object_records.specs.Headers.{HeaderReading}
-use Rattle.data_object_records.specs.WinnerLaws.{typed}
+use Rattle.ohdr_walk.specs.Sources.{source}
+use Rattle.data_object_header.specs.Headers.{HeaderReading}
+use Rattle.data_object_winners.specs.WinnerLaws.{typed}
 
 module _ (file : List ℕ) (s : State) where
   -- an attribute's type stands at p, and after its padding a bounded dataspace
@@ -119,4 +120,4 @@ module _ (file : List ℕ) (s : State) where
   bounded-kept type p q (messages.attributeInfo a) h = tt
 
   pub reading-bounded : {at next : ℕ} {xs : List Item} → HeaderReading file s at next xs → All (λ m. BoundedKept (m .body) (m .kept)) (messagesOf xs)
-  reading-bounded h = reading-each file _ _ (λ m. BoundedKept (m .body) (m .kept)) (λ p q m e. let b = bodied file s (h .fields .flags) p q m e in bounded-kept (m .type) (m .body) (b .upto) (m .kept) (b .stands)) (h .rest)
+  reading-bounded h = reading-each (source file s (h .fields .flags)) (λ m. BoundedKept (m .body) (m .kept)) (λ p q m e. let b = bodied file s (h .fields .flags) p q m e in bounded-kept (m .type) (m .body) (b .upto) (m .kept) (b .stands)) (h .rest)

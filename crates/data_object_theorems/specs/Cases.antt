@@ -2,18 +2,17 @@
 use Prim.Native.Nat.{ℕ}
 use mathlib.Core.Path.{_≡_, refl}
 use mathlib.Core.List.{List, [], _∷_, _++_}
-use lib.ListN.{replicate}
 use Rattle.format.specs.Bytes.{le}
 use Rattle.format.specs.Format.{Out, found, refused, read, bind, times}
 use Rattle.ohdr_info.specs.Info.{cond, groupInfo, continuation}
 use Rattle.ohdr_datatype.specs.DataTypes.{dataType, typeLayer, dataTypeHeader, knownType, knownClass, properties, plain}
 use Rattle.ohdr_dataspace.specs.DataSpaces.{dataSpace, dataSpaceHeader, kind, dimensions, dimensionsFrom, dimension, maximumSizes, dataSpaceSizes}
-use Rattle.grammar.specs.Grammar.{ochk}
-use Rattle.grammar.specs.Table.{put}
-use Rattle.grammar.specs.Walk.{keep, hold, entryBy, runBy, blockBy, entryAt, runAt, walk}
+use Rattle.grammar.specs.Grammar.{ochk, blockEnd, headerEnd}
+use Rattle.grammar.specs.Walk.{lent, hold, entryBy, runBy, blockBy, entryAt, runAt, walk}
 use Rattle.ohdr_entry.specs.Entries.{entry, prefix, creationOrder, closed, messageHeld, continuationHeld, body, plainBody}
-use Rattle.data_object_records.specs.Headers.{ohdr, headerFields, header, decode}
-use Rattle.data_object.specs.Decoded.{counted}
+use Rattle.ohdr_walk.specs.Sources.{sumMatches}
+use Rattle.data_object_header.specs.Headers.{ohdr, headerFields, header, decode}
+use Rattle.data_object.specs.Decoded.{counts}
 
 -- a file with a header at its first byte, the widths, an end-of-file address, and the outcome: entries and next position, or a refusal
 pub record Case : Type 0 where
@@ -25,7 +24,7 @@ pub record Case : Type 0 where
 
 -- what the definition gives, with two rows lent
 abbrev pub given : Case → Out ℕ
-given c = counted (decode (c .file) (c .offsets) (c .lengths) (c .end) 0 (replicate 20 0))
+given c = counts (decode (c .file) (c .offsets) (c .lengths) (c .end) 0 (lent 2))
 
 -- `OHDR`, version 2 and flags 0; four bytes of checksum
 abbrev opening : List ℕ
@@ -83,5 +82,5 @@ each f (c ∷ cs) = f c ∷ each f cs
 
 -- the definition gives each marked case its outcome
 pub marked-cases : each given marked ≡ each (λ c. c .outcome) marked
-unfolding le read bind times cond groupInfo continuation dataType typeLayer dataTypeHeader knownType knownClass properties plain dataSpace dataSpaceHeader kind dimensions dimensionsFrom dimension maximumSizes dataSpaceSizes ochk put keep hold entryBy runBy blockBy entryAt runAt walk entry prefix creationOrder closed messageHeld continuationHeld body plainBody ohdr headerFields header decode
+unfolding le read bind times cond groupInfo continuation dataType typeLayer dataTypeHeader knownType knownClass properties plain dataSpace dataSpaceHeader kind dimensions dimensionsFrom dimension maximumSizes dataSpaceSizes ochk blockEnd headerEnd sumMatches hold entryBy runBy blockBy entryAt runAt walk entry prefix creationOrder closed messageHeld continuationHeld body plainBody ohdr headerFields header decode
 marked-cases = refl

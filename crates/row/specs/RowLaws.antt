@@ -96,7 +96,7 @@ row-behind rs ys =
     )
 
 -- the row behind rs is the one that was written there, whatever follows it
-row-written : (rs : List Row) (r : Row) (qs : List Row) (ys : List ℕ) → rowAt (encode (rs ++ (r ∷ qs)) ++ ys) (length rs) ≡ r
+pub row-written : (rs : List Row) (r : Row) (qs : List Row) (ys : List ℕ) → rowAt (encode (rs ++ (r ∷ qs)) ++ ys) (length rs) ≡ r
 row-written rs r qs ys =
     ap (λ (x : List ℕ). rowAt x (length rs)) (ap (λ (x : List ℕ). x ++ ys) (encode-append rs (r ∷ qs)) ∙ append-assoc (encode rs) (encode (r ∷ qs)) ys)
     ∙ row-behind rs (encode (r ∷ qs) ++ ys)
