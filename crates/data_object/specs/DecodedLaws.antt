@@ -9,7 +9,8 @@ use Rattle.format.specs.Laws.{never}
 use Rattle.records.specs.Refusals.{refusalNumber}
 use Rattle.records.specs.Defaults.{defaultDataSpace, defaultLinkInfo, defaultGroupInfo, defaultAttributeInfo, defaultDataType}
 use Rattle.records.specs.declared.Refusal.{Refusal}
-use Rattle.row.specs.Rows.{rowWords, encode}
+use Rattle.row.specs.RowLaws.{written-read}
+use Rattle.row.specs.Rows.{rowWords, firstRows, encode}
 use Rattle.row.specs.Clearing.{table, cleared-rows}
 use Rattle.parser.specs.declared.State.{State}
 use Rattle.parser.specs.declared.NewState.the-variants as states
@@ -37,7 +38,7 @@ use Rattle.data_object_header.specs.HeaderLaws.{header-accepts, unread, walked,
 use Rattle.data_object_winners.specs.Wins.{Wins, defaults, winsOf}
 use Rattle.data_object_winners.specs.Winners.{lastIn, winner}
 use Rattle.data_object_winners.specs.WinnerLaws.{all-bodied, Won, won, space-won, type-won, link-won, group-won, info-won, data-won}
-use Rattle.data_object.specs.Decoded.{answerOut, counts, rowsIn, winsIn, decoded, Readable, Meant, Decoded}
+use Rattle.data_object.specs.Decoded.{answerOut, counts, rowsIn, winsIn, decoded, Readable, Accepted, Meant, Decoded}
 use Rattle.data_object.specs.declared.Answer.{Answer}
 use Rattle.data_object.specs.declared.Answer.the-variants as answers
 use Rattle.data_object.specs.declared.DataObject.{DataObject}
@@ -123,7 +124,7 @@ module _ (file : List ℕ) (s : State) (at : ℕ) (t : List ℕ) (p : Progress) 
 
 module _ (file : List ℕ) (offsets lengths end at n : ℕ) where
   -- whatever has a reading within the limits is found
-  complete : (next : ℕ) (xs : List Item) → Readable file offsets lengths end at n next xs → decoded file offsets lengths end at n ≡ reached xs next
+  pub complete : (next : ℕ) (xs : List Item) → Readable file offsets lengths end at n next xs → decoded file offsets lengths end at n ≡ reached xs next
   complete next xs r =
       decode-complete offsets lengths end file at (lent (n / rowWords)) next xs (r .widths) (r .small) (r .reading) (fit-lent (n / rowWords) xs .1 (r .few, r .room))
 
@@ -202,3 +203,9 @@ module _ (file : List ℕ) (offsets lengths end at n : ℕ) where
       go : (a : Answer) → Meant file offsets lengths end at n a r t → r .rows ≤ n / rowWords
       go (answers.Read next count) m = omega (arith, m .rows, m .readable .room)
       go (answers.Refused x) m = omega (arith, m .rows)
+
+  -- the rows of the table that an accepted header fills are those of its reading's messages
+  pub accepted-rows : {next count : ℕ} {r : DataObject} {t : List ℕ} (a : Accepted file offsets lengths end at n next count r t) → firstRows t (r .rows) ≡ rowsOf (a .items)
+  accepted-rows a =
+      ap₂ firstRows (a .table) (a .rows ∙ sym (length-rowsOf (a .items)))
+      ∙ written-read (rowsOf (a .items)) (replicate (n - length (rowsOf (a .items)) * rowWords) 0)

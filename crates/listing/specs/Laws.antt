@@ -1,28 +1,45 @@
 -- Laws of the listing. Assumes nothing.
-use Prim.Native.Nat.{ℕ, _+_, _-_, _≤_}
-use mathlib.Core.Path.{_≡_, refl, ap, _∙_}
-use mathlib.Core.List.{List, [], _++_}
+use Prim.Native.Nat.{ℕ, zero, suc, _+_, _-_, _*_, _/_, _≤_}
+use mathlib.Core.Path.{_≡_, refl, sym, ap, _∙_}
+use mathlib.Core.List.{List, [], _∷_, _++_, append-assoc, append-nil}
 use native.Mathlib.Omega.{arith}
 use native.Mathlib.Numerals.{add-one}
-use lib.ListN.{length, take, drop, replicate, length-take, length-drop, length-replicate}
+use lib.ListN.{length, take, drop, replicate, length-append, length-take, length-drop, length-replicate}
 use lib.Seq.{take-all}
-use Rattle.format.specs.Format.{found, read}
-use Rattle.format.specs.Laws.{sound}
+use Rattle.format.specs.Format.{found, refused, read}
+use Rattle.format.specs.Laws.{sound, never}
+use Rattle.records.specs.Refusals.{refusalNumber}
+use Rattle.records.specs.declared.Refusal.{Refusal}
+use Rattle.row.specs.declared.Row.{Row}
+use Rattle.row.specs.Rows.{rowWords, rowAt, firstRows}
 use Rattle.text.specs.Text.{Wrote}
-use Rattle.data_object_records.specs.Headers.{decode}
+use Rattle.grammar.specs.Grammar.{Item}
+use Rattle.grammar.specs.Walk.{Went, reached, stopped, lent}
+use Rattle.data_object_header.specs.Headers.{decode}
+use Rattle.data_object.specs.declared.Answer.{Answer}
+use Rattle.data_object.specs.declared.Answer.the-variants as answers
 use Rattle.data_object.specs.declared.DataObject.{DataObject}
-use Rattle.data_object.specs.Decoded.{Decoded}
-use Rattle.data_object.specs.DecodedLaws.{walkedBy, listed, rows-room}
+use Rattle.data_object.specs.Decoded.{answerOut, counts, decoded, Meant, Decoded}
+use Rattle.data_object.specs.DecodedLaws.{complete, accepted-rows, rows-room}
 use Rattle.listing.specs.declared.Lead.{Lead}
-use Rattle.listing.specs.Listing.{lead, linesOf, lineOf, rowAt, Counts}
+use Rattle.listing.specs.Listing.{lead, lineOf, linesOf, refusedOf, resultOf, answerText, Counts}
 
-pub lines-more : (t : List ℕ) (n : ℕ) → linesOf t (n + 1) ≡ linesOf t n ++ lineOf n (rowAt t n)
-unfolding linesOf
-lines-more t n = rw (add-one n)
+lines-append : (i : ℕ) (rs qs : List Row) → linesOf i (rs ++ qs) ≡ linesOf i rs ++ linesOf (i + length rs) qs
+lines-append i [] qs = let e : i + 0 ≡ i = omega arith in rw e
+lines-append i (r ∷ rs) qs =
+    let e : i + suc (length rs) ≡ suc i + length rs = omega arith in
+    rw e (ap (λ (x : List ℕ). lineOf i r ++ x) (lines-append (suc i) rs qs) ∙ sym (append-assoc (lineOf i r) (linesOf (suc i) rs) (linesOf (suc i + length rs) qs)))
 
-pub lines-none : (t : List ℕ) → linesOf t 0 ≡ []
-unfolding linesOf
-lines-none t = refl
+length-first : (t : List ℕ) (n : ℕ) → length (firstRows t n) ≡ n
+length-first t zero = refl
+length-first t (suc n) = omega (arith, length-append (firstRows t n) (rowAt t n ∷ []), length-first t n)
+
+-- the lines of the first rows of a table, one row more
+pub lines-more : (t : List ℕ) (n : ℕ) → linesOf 0 (firstRows t (n + 1)) ≡ linesOf 0 (firstRows t n) ++ lineOf n (rowAt t n)
+lines-more t n =
+    let e : 0 + length (firstRows t n) ≡ n = omega (arith, length-first t n) in
+    rw (add-one n) (lines-append 0 (firstRows t n) (rowAt t n ∷ []) ∙ ap (λ (k : ℕ). linesOf 0 (firstRows t n) ++ linesOf k (rowAt t n ∷ [])) e
+    ∙ ap (λ (x : List ℕ). linesOf 0 (firstRows t n) ++ x) (append-nil (lineOf n (rowAt t n))))
 
 -- the file begins within the input
 pub lead-inside : (s : List ℕ) (l : Lead) (q : ℕ) → read s lead 0 ≡ found l q → q ≤ length s
@@ -42,12 +59,31 @@ wrote-counts {o} {o′} {r} {xs} w =
 pub part-rest : (n : ℕ) (s : List ℕ) → take (length s - n) (drop n s) ≡ drop n s
 part-rest n s = take-all (length s - n) (drop n s) (omega (arith, length-drop n s))
 
--- what decoding into 512 empty rows gives
-module _ (file : List ℕ) (offsets lengths end at : ℕ) (r : DataObject) (t : List ℕ) (d : Decoded file offsets lengths end at (length (replicate {A = ℕ} 5120 0)) r t) where
-  pub lent : walkedBy (r .answer) (r .rows) t ≡ decode file offsets lengths end at (replicate 5120 0)
-  lent =
-      listed file offsets lengths end at (length (replicate {A = ℕ} 5120 0)) r t d
-      ∙ ap (λ (n : ℕ). decode file offsets lengths end at (replicate n 0)) (length-replicate {A = ℕ} 5120 0)
+-- what is told of a decoded header is what the definition gives, since its table holds the rows of the definition's items
+module _ (file : List ℕ) (offsets lengths end at n : ℕ) (r : DataObject) (t : List ℕ) (d : Decoded file offsets lengths end at n r t) where
+  pub listed : answerText (r .answer) (firstRows t (r .rows)) ≡ resultOf (decoded file offsets lengths end at n)
+  unfolding resultOf
+  listed = go (r .answer) (d .answer) (d .meant)
+    where
+      refusal : (x : Refusal) (w : Went (List Item)) → refused (refusalNumber x) ≡ counts w → refusedOf (refusalNumber x) ≡ resultOf w
+      refusal x (reached xs q) e = never e
+      refusal x (stopped k m) e = let z : refusalNumber x ≡ k = cc in ap refusedOf z
+
+      go : (a : Answer) → answerOut a ≡ counts (decoded file offsets lengths end at n) → Meant file offsets lengths end at n a r t
+          → answerText a (firstRows t (r .rows)) ≡ resultOf (decoded file offsets lengths end at n)
+      go (answers.Read next count) e m =
+          rw (m .entries, accepted-rows file offsets lengths end at n m) (sym (ap resultOf (complete file offsets lengths end at n next (m .items) (m .readable))))
+      go (answers.Refused x) e m = refusal x (decoded file offsets lengths end at n) e
+
+-- 512 rows are lent
+module _ (file : List ℕ) (offsets lengths end at : ℕ) (r : DataObject) (t : List ℕ) (d : Decoded file offsets lengths end at (length (replicate {A = ℕ} (512 * rowWords) 0)) r t) where
+  words : length (replicate {A = ℕ} (512 * rowWords) 0) / rowWords ≡ 512
+  words = omega (arith, length-replicate {A = ℕ} (512 * rowWords) 0)
+
+  pub lent-listed : answerText (r .answer) (firstRows t (r .rows)) ≡ resultOf (decode file offsets lengths end at (lent 512))
+  lent-listed =
+      listed file offsets lengths end at (length (replicate {A = ℕ} (512 * rowWords) 0)) r t d
+      ∙ ap (λ (n : ℕ). resultOf (decode file offsets lengths end at (lent n))) words
 
   pub lent-rows : r .rows ≤ 512
-  lent-rows = omega (arith, rows-room file offsets lengths end at (length (replicate {A = ℕ} 5120 0)) r t d, length-replicate {A = ℕ} 5120 0)
+  lent-rows = omega (arith, words, rows-room file offsets lengths end at (length (replicate {A = ℕ} (512 * rowWords) 0)) r t d)

@@ -1,18 +1,25 @@
 -- The bytes that the listing program writes. Assumes nothing: these are definitions.
-use Prim.Native.Nat.{ℕ, zero, suc, _+_, _*_, _≤_}
+use Prim.Native.Nat.{ℕ, suc, _≤_}
 use mathlib.Core.Path.{_≡_}
-use mathlib.Core.Bool.{Bool, true, not}
+use mathlib.Core.Bool.{true, false}
 use mathlib.Core.List.{List, [], _∷_, _++_}
-use lib.ListN.{length, getD, take, drop, replicate}
-use lib.Dec.{ltb, eqb}
+use lib.ListN.{length, take, drop}
+use lib.Dec.{ltb}
 use Rattle.text.specs.Text.{field}
 use Rattle.format.specs.Format.{Format, done, number, Out, found, refused, pick, read}
-use Rattle.grammar.specs.Walk.{Walked}
-use Rattle.data_object_records.specs.Headers.{decode}
+use Rattle.records.specs.Refusals.{refusalNumber}
+use Rattle.records.specs.declared.OptionPart.{OptionPart}
+use Rattle.records.specs.declared.OptionPart.the-variants as parts
+use Rattle.row.specs.declared.Row.{Row}
+use Rattle.grammar.specs.Grammar.{Item}
+use Rattle.grammar.specs.Table.{rowsOf}
+use Rattle.grammar.specs.Walk.{Went, reached, stopped, lent}
+use Rattle.data_object_header.specs.Headers.{decode}
+use Rattle.data_object.specs.declared.Answer.{Answer}
+use Rattle.data_object.specs.declared.Answer.the-variants as answers
 use Rattle.listing.specs.declared.Lead.{Lead}
 use Rattle.listing.specs.declared.LeadRead.{LeadRead}
 use Rattle.listing.specs.declared.LeadRead.the-variants as leads
-use Rattle.listing.specs.declared.Row.{Row}
 
 -- the 18 lead bytes: widths of offsets and lengths, end-of-file address, header position; where they are fewer, reading is 3
 unfoldable pub lead : Format Lead
@@ -27,25 +34,6 @@ abbrev pub leadOut : LeadRead → Out Lead
 leadOut (leads.Read l q) = found l q
 leadOut leads.Short = refused 3
 
--- row i of a table
-unfoldable pub rowAt : List ℕ → ℕ → Row
-rowAt t i = record {
-  kind = getD t (i * 10) 0;
-  flags = getD t (i * 10 + 1) 0;
-  size = getD t (i * 10 + 2) 0;
-  body = getD t (i * 10 + 3) 0;
-  «has_name» = getD t (i * 10 + 4) 0;
-  «name_position» = getD t (i * 10 + 5) 0;
-  «name_length» = getD t (i * 10 + 6) 0;
-  «has_part» = getD t (i * 10 + 7) 0;
-  «part_position» = getD t (i * 10 + 8) 0;
-  «part_length» = getD t (i * 10 + 9) 0;
-}
-
--- whether a presence word says yes
-abbrev pub yes : ℕ → Bool
-yes n = not (eqb n 0)
-
 -- a line: row, type, flags, size, body position; 44 is a comma
 unfoldable pub headOf : ℕ → Row → List ℕ
 headOf i r =
@@ -55,21 +43,19 @@ headOf i r =
     ++ (field true (r .size) 44
     ++ field true (r .body) 44)))
 
--- name position, name length, part position, part length; 10 ends the line
-unfoldable pub tailOf : Row → List ℕ
-tailOf r =
-    field (yes (r .«has_name»)) (r .«name_position») 44
-    ++ (field (yes (r .«has_name»)) (r .«name_length») 44
-    ++ (field (yes (r .«has_part»)) (r .«part_position») 44
-    ++ field (yes (r .«has_part»)) (r .«part_length») 10))
+-- the position and the length of a part, or two hyphens
+unfoldable pub placeOf : OptionPart → ℕ → List ℕ
+placeOf (parts.Some p) end = field true (p .position) 44 ++ field true (p .length) end
+placeOf parts.None end = field false 0 44 ++ field false 0 end
 
+-- and then name position, name length, part position, part length; 10 ends the line
 unfoldable pub lineOf : ℕ → Row → List ℕ
-lineOf i r = headOf i r ++ tailOf r
+lineOf i r = headOf i r ++ (placeOf (r .name) 44 ++ placeOf (r .part) 10)
 
--- the lines of the first n rows
-unfoldable pub linesOf : List ℕ → ℕ → List ℕ
-linesOf t zero = []
-linesOf t (suc n) = linesOf t n ++ lineOf n (rowAt t n)
+-- the lines of rows, numbered from i on
+abbrev pub linesOf : ℕ → List Row → List ℕ
+linesOf i [] = []
+linesOf i (r ∷ rs) = lineOf i r ++ linesOf (suc i) rs
 
 -- `end,NEXT,ENTRIES`
 unfoldable pub endOf : ℕ → ℕ → List ℕ
@@ -80,13 +66,18 @@ unfoldable pub refusedOf : ℕ → List ℕ
 refusedOf n = (114 ∷ 101 ∷ 102 ∷ 117 ∷ 115 ∷ 101 ∷ 100 ∷ 44 ∷ []) ++ field true n 10
 
 -- what decoding gives: a line a row, and the last; a refusal alone
-unfoldable pub resultOf : Out Walked → List ℕ
-resultOf (found w next) = linesOf (w .table) (w .rows) ++ endOf next (w .entries)
-resultOf (refused n) = refusedOf n
+unfoldable pub resultOf : Went (List Item) → List ℕ
+resultOf (reached xs next) = linesOf 0 (rowsOf xs) ++ endOf next (length xs)
+resultOf (stopped r n) = refusedOf r
+
+-- the same of an answer with its rows
+abbrev pub answerText : Answer → List Row → List ℕ
+answerText (answers.Read next entries) rs = linesOf 0 rs ++ endOf next entries
+answerText (answers.Refused r) rs = refusedOf (refusalNumber r)
 
 -- what follows the lead bytes is the file; 512 rows are lent
 unfoldable pub fileOf : List ℕ → Out Lead → List ℕ
-fileOf s (found l start) = resultOf (decode (drop start s) (l .offsets) (l .lengths) (l .«end_of_file») (l .position) (replicate 5120 0))
+fileOf s (found l start) = resultOf (decode (drop start s) (l .offsets) (l .lengths) (l .«end_of_file») (l .position) (lent 512))
 fileOf s (refused n) = refusedOf n
 
 -- all that the program writes for an input; more than 65,536 bytes is 2

@@ -5,13 +5,17 @@ use helpers::ReadU8;
 use helpers::ReadU64;
 use helpers::le_u8;
 use helpers::le_u64;
+use records::OptionPart;
+use row::ROW_WORDS;
+use row::Row;
+use row::row_at;
 ghost use mathlib.Core.Path.{_≡_};
-ghost use Prim.Native.Nat.{_+_, _*_, _/_, _<_, _≤_};
-ghost use lib.ListN.{length, take};
+ghost use Prim.Native.Nat.{_+_, _*_, _/_, _≤_};
+ghost use lib.ListN.{length, take, drop};
 ghost use Rattle.format.specs.Format.{read};
+ghost use Rattle.row.specs.Rows.{rowWords, firstRows};
 ghost use Rattle.text.specs.Text.{Wrote};
-ghost use Rattle.data_object.specs.DecodedLaws.{walkedBy};
-ghost use Rattle.listing.specs.Listing.{lead as leadFormat, leadOut, rowAt, headOf, tailOf, lineOf, linesOf, endOf, refusedOf, resultOf, listingOf, Counts};
+ghost use Rattle.listing.specs.Listing.{lead as leadFormat, leadOut, headOf, placeOf, lineOf, linesOf, endOf, refusedOf, answerText, listingOf, Counts};
 
 // What stands before the file: the widths of offsets and lengths, the end-of-file address and the
 // position of the header.
@@ -26,20 +30,6 @@ pub struct Lead {
 pub enum LeadRead {
     Read(Lead, usize),
     Short,
-}
-
-// A row of the table.
-pub struct Row {
-    pub kind: u64,
-    pub flags: u64,
-    pub size: u64,
-    pub body: u64,
-    pub has_name: u64,
-    pub name_position: u64,
-    pub name_length: u64,
-    pub has_part: u64,
-    pub part_position: u64,
-    pub part_length: u64,
 }
 
 pub fn read_lead(input: &[u8]) -> LeadRead
@@ -66,25 +56,6 @@ pub fn read_lead(input: &[u8]) -> LeadRead
     LeadRead::Read(lead, at)
 }
 
-pub fn row_at(table: &[u64], i: usize) -> Row
-    requires { ⌜ i < length (now table) / 10 ⌝ }
-    ensures { λ r. ⌜ r ≡ rowAt (now (table .entry)) i ⌝ }
-{
-    let first = i * 10;
-    Row {
-        kind: table[first],
-        flags: table[first + 1],
-        size: table[first + 2],
-        body: table[first + 3],
-        has_name: table[first + 4],
-        name_position: table[first + 5],
-        name_length: table[first + 6],
-        has_part: table[first + 7],
-        part_position: table[first + 8],
-        part_length: table[first + 9],
-    }
-}
-
 fn put_head(out: &mut [u8], at: usize, i: usize, row: Row) -> usize
     requires { ⌜ at + 105 ≤ length (now out) ⌝ }
     ensures { λ r. ⌜ Wrote (now (out .entry)) at (now (out .exit)) r (headOf i row) ⌝ }
@@ -94,18 +65,25 @@ fn put_head(out: &mut [u8], at: usize, i: usize, row: Row) -> usize
     let at = text::put_field(out, at, true, row.kind, b',');
     let at = text::put_field(out, at, true, row.flags, b',');
     let at = text::put_field(out, at, true, row.size, b',');
-    text::put_field(out, at, true, row.body, b',')
+    text::put_field(out, at, true, row.body as u64, b',')
 }
 
-fn put_tail(out: &mut [u8], at: usize, row: Row) -> usize
-    requires { ⌜ at + 84 ≤ length (now out) ⌝ }
-    ensures { λ r. ⌜ Wrote (now (out .entry)) at (now (out .exit)) r (tailOf row) ⌝ }
-    ensures { λ r. ⌜ r ≤ at + 84 ⌝ }
+// The position and the length of a part, or two hyphens.
+fn put_part(out: &mut [u8], at: usize, part: OptionPart, end: u8) -> usize
+    requires { ⌜ at + 42 ≤ length (now out) ⌝ }
+    ensures { λ r. ⌜ Wrote (now (out .entry)) at (now (out .exit)) r (placeOf part end) ⌝ }
+    ensures { λ r. ⌜ r ≤ at + 42 ⌝ }
 {
-    let at = text::put_field(out, at, row.has_name != 0, row.name_position, b',');
-    let at = text::put_field(out, at, row.has_name != 0, row.name_length, b',');
-    let at = text::put_field(out, at, row.has_part != 0, row.part_position, b',');
-    text::put_field(out, at, row.has_part != 0, row.part_length, b'\n')
+    match part {
+        OptionPart::None => {
+            let at = text::put_field(out, at, false, 0, b',');
+            text::put_field(out, at, false, 0, end)
+        }
+        OptionPart::Some(p) => {
+            let at = text::put_field(out, at, true, p.position as u64, b',');
+            text::put_field(out, at, true, p.length as u64, end)
+        }
+    }
 }
 
 fn put_line(out: &mut [u8], at: usize, i: usize, row: Row) -> usize
@@ -113,13 +91,16 @@ fn put_line(out: &mut [u8], at: usize, i: usize, row: Row) -> usize
     ensures { λ r. ⌜ Wrote (now (out .entry)) at (now (out .exit)) r (lineOf i row) ⌝ }
     ensures { λ r. ⌜ r ≤ at + 189 ⌝ }
 {
+    let name = row.name;
+    let part = row.part;
     let at = put_head(out, at, i, row);
-    put_tail(out, at, row)
+    let at = put_part(out, at, name, b',');
+    put_part(out, at, part, b'\n')
 }
 
 fn put_lines(out: &mut [u8], table: &[u64], rows: usize) -> usize
-    requires { ⌜ (rows ≤ length (now table) / 10) × (rows * 189 ≤ length (now out)) ⌝ }
-    ensures { λ r. ⌜ Wrote (now (out .entry)) 0 (now (out .exit)) r (linesOf (now (table .entry)) rows) ⌝ }
+    requires { ⌜ (rows ≤ length (now table) / rowWords) × (rows * 189 ≤ length (now out)) ⌝ }
+    ensures { λ r. ⌜ Wrote (now (out .entry)) 0 (now (out .exit)) r (linesOf 0 (firstRows (now (table .entry)) rows)) ⌝ }
     ensures { λ r. ⌜ r ≤ rows * 189 ⌝ }
 {
     let mut at = 0;
@@ -150,8 +131,8 @@ fn put_refused(out: &mut [u8], n: u64) -> usize
 
 // An answer, with the rows of its table, as text.
 fn put_answer(out: &mut [u8], table: &[u64], answer: Answer, rows: usize) -> usize
-    requires { ⌜ (rows ≤ length (now table) / 10) × (rows * 189 + 46 ≤ length (now out)) ⌝ }
-    ensures { λ r. ⌜ Wrote (now (out .entry)) 0 (now (out .exit)) r (resultOf (walkedBy answer rows (now (table .entry)))) ⌝ }
+    requires { ⌜ (rows ≤ length (now table) / rowWords) × (rows * 189 + 46 ≤ length (now out)) ⌝ }
+    ensures { λ r. ⌜ Wrote (now (out .entry)) 0 (now (out .exit)) r (answerText answer (firstRows (now (table .entry)) rows)) ⌝ }
 {
     match answer {
         Answer::Read(next, entries) => {
@@ -162,11 +143,13 @@ fn put_answer(out: &mut [u8], table: &[u64], answer: Answer, rows: usize) -> usi
     }
 }
 
-// The listing of an input, put at the start of out; the answer is its length. A line has at most
-// 189 bytes and the last at most 46, so out has room for 512 rows.
+// The listing of an input, put at the start of out; the answer is its length, and what stands behind
+// it is left alone. A line has at most 189 bytes and the last at most 46, so out has room for 512
+// rows.
 pub fn list(input: &[u8], out: &mut [u8; 98304]) -> usize
     ensures { λ r. ⌜ Counts r (now (out .exit)) ⌝ }
     ensures { λ r. ⌜ take r (now (out .exit)) ≡ listingOf (now (input .entry)) ⌝ }
+    ensures { λ r. ⌜ drop r (now (out .exit)) ≡ drop r (now (out .entry)) ⌝ }
 {
     if 65536 < input.len() {
         return put_refused(out, 2);
@@ -174,7 +157,7 @@ pub fn list(input: &[u8], out: &mut [u8; 98304]) -> usize
     let LeadRead::Read(lead, start) = read_lead(input) else {
         return put_refused(out, 3);
     };
-    let mut table = [0u64; 5120];
+    let mut table = [0u64; 512 * ROW_WORDS];
     let object = data_object(
         &input[start..],
         lead.position,
