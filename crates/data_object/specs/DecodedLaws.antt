@@ -15,7 +15,7 @@ use Rattle.row.specs.Clearing.{table, cleared-rows}
 use Rattle.parser.specs.declared.State.{State}
 use Rattle.parser.specs.declared.NewState.the-variants as states
 use Rattle.parser.specs.States.{stateOf}
-use Rattle.parser.specs.StateLaws.{made-widths}
+use Rattle.parser.specs.StateLaws.{made, made-widths}
 use Rattle.grammar.specs.Grammar.{Item}
 use Rattle.grammar.specs.Table.{messagesOf, messages, rowsOf}
 use Rattle.grammar.specs.TableLaws.{length-rowsOf}
@@ -34,7 +34,7 @@ use Rattle.data_object_header.specs.declared.HeaderFields.{HeaderFields}
 use Rattle.data_object_header.specs.declared.FieldsRead.{FieldsRead}
 use Rattle.data_object_header.specs.declared.FieldsRead.the-variants as fields
 use Rattle.data_object_header.specs.Headers.{headerFields, HeaderReading, fileLimit, header}
-use Rattle.data_object_header.specs.HeaderLaws.{header-accepts, unread, walked, starts-after, starts-inside, size-small, made, goes-on, decode-complete}
+use Rattle.data_object_header.specs.HeaderLaws.{header-accepts, unread, walked, starts-after, starts-inside, size-small, goes-on, decode-complete}
 use Rattle.data_object_winners.specs.Wins.{Wins, defaults, winsOf}
 use Rattle.data_object_winners.specs.Winners.{lastIn, winner}
 use Rattle.data_object_winners.specs.WinnerLaws.{all-bodied, Won, won, space-won, type-won, link-won, group-won, info-won, data-won}

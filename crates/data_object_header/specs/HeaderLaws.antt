@@ -1,8 +1,8 @@
 -- Decoding accepts exactly the headers that have a reading within the limits, and gives that reading; no header has two: its fields stand in one
 -- way, and so does what follows them. Assumes nothing.
 use Prim.Native.Nat.{ℕ, _+_, _%_, _^_, _≤_, _<_}
-use mathlib.Core.Path.{_≡_, refl, sym, ap, _∙_, subst₂}
-use mathlib.Core.Bool.{Bool, true, false, not, _&&_}
+use mathlib.Core.Path.{_≡_, sym, ap, _∙_, subst₂}
+use mathlib.Core.Bool.{not}
 use mathlib.Core.Logic.{_↔_}
 use mathlib.Core.List.{List}
 use native.Mathlib.Omega.{arith}
@@ -17,11 +17,11 @@ use Rattle.format.specs.Covers.{forward, inside}
 use Rattle.format.specs.Standing.{stands-bind, stands-check}
 use Rattle.records.specs.Refusals.{refusalNumber}
 use Rattle.records.specs.declared.Refusal.{Refusal}
-use Rattle.records.specs.declared.Refusal.the-variants as refusals
 use Rattle.helpers.specs.Facts.{met}
 use Rattle.parser.specs.declared.State.{State}
 use Rattle.parser.specs.declared.NewState.the-variants as states
-use Rattle.parser.specs.States.{Widths, widthAllowed, stateOf}
+use Rattle.parser.specs.States.{Widths, stateFor, stateOf}
+use Rattle.parser.specs.StateLaws.{made, unmade, allowed}
 use Rattle.grammar.specs.Grammar.{Item, Reading}
 use Rattle.grammar.specs.Walk.{reached, stopped, begun, Limits, start, walk}
 use Rattle.grammar.specs.WalkLaws.{first, was-found, found-then, refused-then, choose-yes, choose-no, Fit}
@@ -32,7 +32,7 @@ use Rattle.data_object_header.specs.Answers.{fieldsOut}
 use Rattle.data_object_header.specs.declared.HeaderFields.{HeaderFields}
 use Rattle.data_object_header.specs.declared.FieldsRead.{FieldsRead}
 use Rattle.data_object_header.specs.declared.FieldsRead.the-variants as fields
-use Rattle.data_object_header.specs.Headers.{ohdr, headerFields, HeaderReading, stateFor, fileLimit, header, decode}
+use Rattle.data_object_header.specs.Headers.{ohdr, headerFields, HeaderReading, fileLimit, header, decode}
 
 module _ (file : List ℕ) (s : State) where
   header-sound : (l : Limits) (at next : ℕ) (xs : List Item) → header file s l at ≡ reached xs next → HeaderReading file s at next xs × Fit l start xs
@@ -101,44 +101,24 @@ module _ (file : List ℕ) (s : State) (l : Limits) (at : ℕ) {r : FieldsRead} 
         let d = stands-check file (leb size 16777216) 7 (done {A = HeaderFields} (record { flags = flags; size = size })) (p + 2 ^ (flags % 4)) from v (c .1 .1 .1) in
         rw (← ap (λ (x : HeaderFields). x .size) (d .1 .1)) (leb-true size 16777216 (d .0))
 
--- what a state that was made, or refused, says of the widths
 module _ (offsets lengths end : ℕ) where
-  pub made : {s : State} → stateOf offsets lengths end ≡ states.Made s → ((widthAllowed offsets && widthAllowed lengths) ≡ true) × (s ≡ stateFor offsets lengths end)
-  made {s} e = go (widthAllowed offsets && widthAllowed lengths) refl e
-    where
-      go : (t : Bool) → (widthAllowed offsets && widthAllowed lengths) ≡ t → pick t (states.Made (stateFor offsets lengths end)) (states.Refused refusals.Width) ≡ states.Made s
-          → ((widthAllowed offsets && widthAllowed lengths) ≡ true) × (s ≡ stateFor offsets lengths end)
-      go true d e = (d, cc)
-      go false d e = let z : _≡_ {A = ℕ} 0 1 = cc in absurd (omega arith)
-
-  unmade : {x : Refusal} → stateOf offsets lengths end ≡ states.Refused x → ((widthAllowed offsets && widthAllowed lengths) ≡ false) × (refusalNumber x ≡ 1)
-  unmade {x} e = go (widthAllowed offsets && widthAllowed lengths) refl e
-    where
-      go : (t : Bool) → (widthAllowed offsets && widthAllowed lengths) ≡ t → pick t (states.Made (stateFor offsets lengths end)) (states.Refused refusals.Width) ≡ states.Refused x
-          → ((widthAllowed offsets && widthAllowed lengths) ≡ false) × (refusalNumber x ≡ 1)
-      go true d e = let z : _≡_ {A = ℕ} 0 1 = cc in absurd (omega arith)
-      go false d e = let y : refusals.Width ≡ x = cc in (d, ap refusalNumber (sym y))
-
-  pub allowed : Widths (stateFor offsets lengths end) → (widthAllowed offsets && widthAllowed lengths) ≡ true
-  allowed w = rw (le-leb 2 offsets (w .offsets-least), le-leb offsets 8 (w .offsets), le-leb 2 lengths (w .lengths-least), le-leb lengths 8 (w .lengths))
-
   -- the definition by the tests that come first
   module _ (file : List ℕ) (at : ℕ) (l : Limits) where
     pub no-width : {x : Refusal} → stateOf offsets lengths end ≡ states.Refused x → decode file offsets lengths end at l ≡ stopped (refusalNumber x) 0
     unfolding decode
-    no-width e = let u = unmade e in choose-no _ _ (u .0) ∙ ap (λ (k : ℕ). stopped k 0) (sym (u .1))
+    no-width e = let u = unmade offsets lengths end e in choose-no _ _ (u .0) ∙ ap (λ (k : ℕ). stopped k 0) (sym (u .1))
 
     pub too-large : {s : State} → stateOf offsets lengths end ≡ states.Made s → fileLimit < length file → decode file offsets lengths end at l ≡ stopped 2 0
     unfolding decode
-    too-large e h = choose-yes _ _ (made e .0) ∙ choose-no _ _ (lt-leb _ _ h)
+    too-large e h = choose-yes _ _ (made offsets lengths end e .0) ∙ choose-no _ _ (lt-leb _ _ h)
 
     pub goes-on : {s : State} → stateOf offsets lengths end ≡ states.Made s → length file ≤ fileLimit → decode file offsets lengths end at l ≡ header file s l at
     unfolding decode
-    goes-on e h = choose-yes _ _ (made e .0) ∙ choose-yes _ _ (le-leb _ _ h) ∙ ap (λ (x : State). header file x l at) (sym (made e .1))
+    goes-on e h = choose-yes _ _ (made offsets lengths end e .0) ∙ choose-yes _ _ (le-leb _ _ h) ∙ ap (λ (x : State). header file x l at) (sym (made offsets lengths end e .1))
 
     -- whatever has a reading within the limits is reached
     pub decode-complete : (next : ℕ) (xs : List Item) → Widths (stateFor offsets lengths end) → length file ≤ fileLimit
         → HeaderReading file (stateFor offsets lengths end) at next xs → Fit l start xs → decode file offsets lengths end at l ≡ reached xs next
     unfolding decode
     decode-complete next xs w h r f =
-        choose-yes _ _ (allowed w) ∙ choose-yes _ _ (le-leb _ _ h) ∙ header-complete file (stateFor offsets lengths end) l at next xs (r, f)
+        choose-yes _ _ (allowed offsets lengths end w) ∙ choose-yes _ _ (le-leb _ _ h) ∙ header-complete file (stateFor offsets lengths end) l at next xs (r, f)

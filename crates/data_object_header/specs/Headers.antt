@@ -7,7 +7,7 @@ use lib.Dec.{eqb, leb}
 use Rattle.format.specs.Bits.{bit}
 use Rattle.format.specs.Format.{Format, done, number, skip, bind, check, pick, signature, Stands, read}
 use Rattle.parser.specs.declared.State.{State}
-use Rattle.parser.specs.States.{widthAllowed}
+use Rattle.parser.specs.States.{widthAllowed, stateFor}
 use Rattle.grammar.specs.Grammar.{Item, Reading}
 use Rattle.grammar.specs.Walk.{choose, Went, stopped, andThen, begun, Limits, walk}
 use Rattle.ohdr_walk.specs.Sources.{source}
@@ -37,10 +37,6 @@ pub record HeaderReading (file : List ℕ) (s : State) (at next : ℕ) (xs : Lis
   pub start : ℕ
   pub head : Stands file headerFields at start fields
   pub rest : Reading (source file s (fields .flags)) at start (start + fields .size) next xs
-
--- the state of these widths and this end-of-file address
-abbrev pub stateFor : ℕ → ℕ → ℕ → State
-stateFor offsets lengths end = record { «size_of_lengths» = lengths; «size_of_offsets» = offsets; «end_of_file_address» = end }
 
 -- what a header at a position gives, within limits; no entry is begun before its fields are read
 unfoldable pub header : List ℕ → State → Limits → ℕ → Went (List Item)

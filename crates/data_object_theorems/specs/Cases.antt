@@ -4,7 +4,8 @@ use mathlib.Core.Path.{_≡_, refl}
 use mathlib.Core.List.{List, [], _∷_, _++_}
 use Rattle.format.specs.Bytes.{le}
 use Rattle.format.specs.Format.{Out, found, refused, read, bind, times}
-use Rattle.ohdr_info.specs.Info.{cond, groupInfo, continuation}
+use Rattle.ohdr_info.specs.Info.{cond, groupInfo}
+use Rattle.ohdr_entry.specs.Continuations.{continuation}
 use Rattle.ohdr_datatype.specs.DataTypes.{dataType, typeLayer, dataTypeHeader, knownType, knownClass, properties, plain}
 use Rattle.ohdr_dataspace.specs.DataSpaces.{dataSpace, dataSpaceHeader, kind, dimensions, dimensionsFrom, dimension, maximumSizes, dataSpaceSizes}
 use Rattle.grammar.specs.Grammar.{ochk, blockEnd, headerEnd}

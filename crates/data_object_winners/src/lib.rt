@@ -1,6 +1,5 @@
 // The records that win among the messages of a header (data_object.rs,
 // build_data_object_from_messages).
-use helpers::Place;
 use ohdr_dataspace::message_data_space;
 use ohdr_datatype::DataTypeRead;
 use ohdr_datatype::message_data_type;
@@ -76,10 +75,6 @@ pub fn winning_data_space(file: &[u8], table: &[u64], row: usize, state: State) 
         return DataSpace::default();
     };
     let answer = message_data_space(file, body, state);
-    let place = answer.answer;
-    let Place::At(_) = place else {
-        return DataSpace::default();
-    };
     answer.data_space
 }
 

@@ -10,6 +10,7 @@ use lib.Dec.{leb, ltb, eqb}
 use native.Mathlib.Nat.{add-zero, zero-add, mul-assoc}
 use lib.Pow.{pow-add}
 use borrow.Author.Tests.{eq-eqb, ne-eqb, eqb-true, eqb-false, lt-ltb, le-ltb, ltb-true, le-leb, lt-leb, leb-true, leb-false}
+use Rattle.format.specs.Bools.{and-left, and-right, and-none}
 use Rattle.format.specs.Bytes.{le, Named, Trimmed, nameLength, textLength}
 use Rattle.format.specs.Format.{nameEnds}
 
@@ -27,18 +28,6 @@ by-le {P} a b f g = go (leb a b) refl
     go : (t : Bool) → leb a b ≡ t → P
     go true e = f (leb-true a b e)
     go false e = g (leb-false a b e)
-
-pub and-left : (a b : Bool) → (a && b) ≡ true → a ≡ true
-and-left true b e = refl
-and-left false b e = e
-
-and-none : (a : Bool) → (a && false) ≡ false
-and-none true = refl
-and-none false = refl
-
-pub and-right : (a b : Bool) → (a && b) ≡ true → b ≡ true
-and-right true b e = e
-and-right false b e = let z : _≡_ {A = ℕ} 0 1 = cc in absurd (omega arith)
 
 module _ (s : List ℕ) where
   -- a number of w bytes is below 2 ^ (8 * w)

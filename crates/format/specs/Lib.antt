@@ -1,5 +1,6 @@
 pub mod Bytes
 pub mod Format
+pub mod Bools
 pub mod BytesLaws
 pub mod Laws
 pub mod Covers

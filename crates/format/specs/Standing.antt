@@ -3,7 +3,6 @@ use Prim.Native.Nat.{ℕ, _≤_}
 use mathlib.Core.Path.{_≡_, refl, sym, _∙_}
 use mathlib.Core.Bool.{Bool, true, false}
 use mathlib.Core.List.{List}
-use lib.ListN.{length}
 use Rattle.format.specs.Format.{Format, Stands, Out, found, refused, read, bind, check}
 use Rattle.format.specs.Laws.{never, sound, complete}
 use Rattle.format.specs.Covers as covers
@@ -19,14 +18,15 @@ module _ (s : List ℕ) where
       go (found a m) e d = (m, a, sound s F p m a e, sound s (k a) m q b d)
       go (refused n) e d = never d
 
+  -- and the other way round
+  pub bind-stands : {A B : Type 0} (F : Format A) (k : A → Format B) (p m q : ℕ) (a : A) (b : B) → Stands s F p m a → Stands s (k a) m q b → Stands s (bind F k) p q b
+  bind-stands F k p m q a b h i = sound s (bind F k) p q b (rw (read-bind, complete s F p m a h) (complete s (k a) m q b i))
+
   -- what stands after a test has passed it
   pub stands-check : {A : Type 0} (t : Bool) (n : ℕ) (F : Format A) (p q : ℕ) (a : A) → Stands s (check t n F) p q a → (t ≡ true) × Stands s F p q a
   stands-check true n F p q a h = (refl, h)
   stands-check false n F p q a h = absurd h
 
-  -- what is read ends no earlier than it starts, and in the file if it starts there
+  -- what is read ends no earlier than it starts
   pub read-forward : {A : Type 0} (F : Format A) (p q : ℕ) (a : A) → read s F p ≡ found a q → p ≤ q
   read-forward F p q a e = covers.forward s F p q a (sound s F p q a e)
-
-  pub read-inside : {A : Type 0} (F : Format A) (p q : ℕ) (a : A) → read s F p ≡ found a q → p ≤ length s → q ≤ length s
-  read-inside F p q a e = covers.inside s F p q a (sound s F p q a e)

@@ -49,10 +49,6 @@ module _ (s : List ℕ) where
   unfolding read
   read-skip n F p = tested s (λ (_ : Unit {0}). F) (found tt (p + n)) (read s F (p + n)) refl (leb (p + n) (length s))
 
-  pub read-bytes : {A : Type 0} (n : ℕ) (F : Format A) (p : ℕ) → read s (bytes n F) p ≡ after s (λ _. F) (read s (bytes n nothing) p)
-  unfolding read
-  read-bytes n F p = tested s (λ (_ : Unit {0}). F) (found tt (p + n)) (read s F (p + n)) refl (leb (p + n) (length s))
-
   pub read-name : {A : Type 0} (limit : ℕ) (k : ℕ → Format A) (p : ℕ) → read s (name limit k) p ≡ after s k (read s (name limit done) p)
   unfolding read
   read-name limit k p = tested s k (found (nameLength s p limit) (p + nameLength s p limit)) (read s (k (nameLength s p limit)) (p + nameLength s p limit)) refl (nameEnds s p limit (nameLength s p limit))

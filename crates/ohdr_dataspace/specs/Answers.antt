@@ -1,8 +1,10 @@
 -- What the answers of the readers mean. Assumes nothing: these are definitions.
 use Prim.Native.Nat.{ℕ, _^_}
 use lib.Dec.{ltb}
+use mathlib.Core.Path.{_≡_}
 use Rattle.format.specs.Format.{Out, found, refused, pick}
 use Rattle.records.specs.Refusals.{refusalNumber}
+use Rattle.records.specs.Defaults.{defaultDataSpace}
 use Rattle.records.specs.declared.OptionU8.{OptionU8}
 use Rattle.records.specs.declared.Dimensions.{Dimensions}
 use Rattle.records.specs.declared.DataSpace.{DataSpace}
@@ -39,6 +41,11 @@ kindOut kinds.Short = refused 3
 abbrev pub headerOut : HeaderRead → Out DataSpaceHeader
 headerOut (headers.Read v q) = found v q
 headerOut (headers.Refused r) = refused (refusalNumber r)
+
+-- beside a refusal stands the default record
+abbrev pub Defaulted : Place → DataSpace → Type 0
+Defaulted (places.At q) d = Unit {0}
+Defaulted (places.Refused r) d = d ≡ defaultDataSpace
 
 abbrev pub dataSpaceOut : DataSpaceRead → Out DataSpace
 dataSpaceOut r = placed (r .answer) (r .«data_space»)

@@ -21,7 +21,7 @@ ghost use Rattle.format.specs.Format.{read, refused};
 ghost use Rattle.records.specs.Refusals.{refusalNumber};
 ghost use Rattle.parser.specs.States.{Widths};
 ghost use Rattle.ohdr_dataspace.specs.DataSpaces.{unlimited as allOnes, dimension as dimensionFormat, dimensions as dimensionsFormat, kind as kindFormat, maximumSizes, dataSpaceHeader, dataSpaceSizes, dataSpace, elements as elementsOf};
-ghost use Rattle.ohdr_dataspace.specs.Answers.{dimensionOut, dimensionsOut, kindOut, headerOut, dataSpaceOut, countOf};
+ghost use Rattle.ohdr_dataspace.specs.Answers.{dimensionOut, dimensionsOut, kindOut, headerOut, Defaulted, dataSpaceOut, countOf};
 
 // One size, and the position after it.
 pub enum DimensionRead {
@@ -218,6 +218,7 @@ fn maximum_sizes(file: &[u8], at: usize, count: u8, width: usize, present: bool)
 // A refused dataspace: the record is the default one.
 fn no_data_space(r: Refusal) -> DataSpaceRead
     ensures { λ a. ⌜ dataSpaceOut a ≡ refused (refusalNumber r) ⌝ }
+    ensures { λ a. ⌜ Defaulted (a .answer) (a .«data_space») ⌝ }
 {
     DataSpaceRead {
         answer: Place::Refused(r),
@@ -229,6 +230,7 @@ fn no_data_space(r: Refusal) -> DataSpaceRead
 fn data_space_sizes(file: &[u8], at: usize, header: DataSpaceHeader, width: usize) -> DataSpaceRead
     requires { ⌜ (header .dimensionality ≤ 4) × (width ≤ 8) ⌝ }
     ensures { λ r. ⌜ dataSpaceOut r ≡ read (now (file .entry)) (dataSpaceSizes width header) at ⌝ }
+    ensures { λ r. ⌜ Defaulted (r .answer) (r .«data_space») ⌝ }
 {
     let sizes = dimensions(file, at, header.dimensionality, width, false);
     let sizes_end = sizes.answer;
@@ -262,9 +264,11 @@ fn data_space_sizes(file: &[u8], at: usize, header: DataSpaceHeader, width: usiz
     }
 }
 
+// A refusal comes with the default record.
 pub fn message_data_space(file: &[u8], at: usize, state: State) -> DataSpaceRead
     requires { ⌜ Widths state ⌝ }
     ensures { λ r. ⌜ dataSpaceOut r ≡ read (now (file .entry)) (dataSpace state) at ⌝ }
+    ensures { λ r. ⌜ Defaulted (r .answer) (r .«data_space») ⌝ }
 {
     match data_space_header(file, at) {
         HeaderRead::Read(header, next) => {

@@ -5,7 +5,7 @@ use Rattle.records.specs.Refusals.{refusalNumber}
 use Rattle.grammar.specs.Message.{Kept, Held, nameOf, partOf, rowOf}
 use Rattle.grammar.specs.Message as messages
 use Rattle.row.specs.declared.Row.{Row}
-use Rattle.ohdr_info.specs.declared.Continuation.{Continuation}
+use Rattle.ohdr_entry.specs.declared.Continuation.{Continuation}
 use Rattle.ohdr_entry.specs.declared.Prefix.{Prefix}
 use Rattle.ohdr_entry.specs.declared.PrefixRead.{PrefixRead}
 use Rattle.ohdr_entry.specs.declared.PrefixRead.the-variants as prefixes
@@ -20,9 +20,9 @@ prefixOut (prefixes.Read v q) = found v q
 prefixOut (prefixes.Refused r) = refused (refusalNumber r)
 
 -- a position alone
-abbrev pub passed : {A : Type 0} → Out A → Out (Unit {0})
-passed (found a q) = found tt q
-passed (refused n) = refused n
+abbrev pub positionOf : {A : Type 0} → Out A → Out (Unit {0})
+positionOf (found a q) = found tt q
+positionOf (refused n) = refused n
 
 -- the figures of a body: its name and its part
 abbrev pub figuresOf : Out Kept → Out Figures

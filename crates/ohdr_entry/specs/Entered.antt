@@ -9,7 +9,7 @@ use lib.ListN.{length}
 use lib.Dec.{eqb, leb}
 use borrow.Author.Tests.{leb-true}
 use Rattle.format.specs.Bytes.{le}
-use Rattle.format.specs.BytesLaws.{and-left, and-right}
+use Rattle.format.specs.Bools.{and-left, and-right}
 use Rattle.format.specs.Format.{Format, pick, Stands, Out, found, refused, read}
 use Rattle.format.specs.Laws.{never, sound}
 use Rattle.format.specs.Covers.{inside}
@@ -18,8 +18,8 @@ use Rattle.grammar.specs.Message.{Message, Held, message, continuation, rowOf}
 use Rattle.row.specs.declared.Row.{Row}
 use Rattle.parser.specs.declared.State.{State}
 use Rattle.parser.specs.States.{addressValid}
-use Rattle.ohdr_info.specs.declared.Continuation.{Continuation}
-use Rattle.ohdr_info.specs.Info as info
+use Rattle.ohdr_entry.specs.declared.Continuation.{Continuation}
+use Rattle.ohdr_entry.specs.Continuations as info
 use Rattle.ohdr_entry.specs.declared.Prefix.{Prefix}
 use Rattle.ohdr_entry.specs.Entries.{prefix, body, messageHeld, continuationHeld, closed, entry}
 use Rattle.ohdr_entry.specs.Answers.{row, seen}

@@ -6,7 +6,8 @@ use lib.Dec.{eqb}
 use Rattle.format.specs.Bits.{bit}
 use Rattle.format.specs.Format.{Format, done, number, skip, here, bind, check, pick, nothing}
 use Rattle.parser.specs.declared.State.{State}
-use Rattle.ohdr_info.specs.Info.{linkInfo, groupInfo, attributeInfo, continuation}
+use Rattle.ohdr_info.specs.Info.{linkInfo, groupInfo, attributeInfo}
+use Rattle.ohdr_entry.specs.Continuations.{continuation}
 use Rattle.ohdr_storage.specs.Storage.{fillOld, fill, dataLayout, filterPipeline}
 use Rattle.ohdr_datatype.specs.DataTypes.{dataType, typeLevels}
 use Rattle.ohdr_dataspace.specs.DataSpaces.{dataSpace}

@@ -1,10 +1,13 @@
 -- What the proofs of the readers cite. Assumes nothing.
 use Prim.Native.Nat.{ℕ, _+_, _-_, _≤_, _<_}
-use mathlib.Core.Path.{_≡_, refl}
+use mathlib.Core.Path.{_≡_, refl, sym, _∙_}
 use mathlib.Core.Bool.{Bool, true, false}
 use mathlib.Core.List.{List}
 use native.Mathlib.Omega.{arith}
-use lib.Dec.{eqb}
+use lib.Dec.{eqb, ltb, leb}
+use borrow.Author.Tests.{ltb-true, lt-leb, le-leb}
+use Rattle.format.specs.Bools.{and-right}
+use Rattle.parser.specs.States.{addressValid}
 use Rattle.format.specs.Format.{Format, done, skip, here, Out, found, refused, read, bind, pick, nothing}
 use Rattle.format.specs.Laws.{never}
 use Rattle.format.specs.Standing.{read-forward}
@@ -24,7 +27,20 @@ use Rattle.ohdr_dataspace.specs.Answers.{placed}
 use Rattle.ohdr_entry.specs.declared.Prefix.{Prefix}
 use Rattle.ohdr_entry.specs.declared.Figures.{Figures}
 use Rattle.ohdr_entry.specs.Entries.{plainBody, body, messageHeld, closed}
-use Rattle.ohdr_entry.specs.Answers.{passed, figuresOf, Seen, row, seenIn, seen}
+use Rattle.ohdr_entry.specs.Answers.{positionOf, figuresOf, Seen, row, seenIn, seen}
+
+-- an address that was tested leaves room before the end of the file
+pub before-end : {t : Bool} (s : State) (address : ℕ) → t ≡ addressValid s address → t ≡ true → address ≤ s .«end_of_file_address»
+before-end s a e f =
+    let h : a < s .«end_of_file_address» = ltb-true a (s .«end_of_file_address») (and-right (ltb 0 a) (ltb a (s .«end_of_file_address»)) (sym e ∙ f)) in
+    omega arith
+
+-- whether a block ends in the file, tested by the room that its offset leaves
+pub ends-past : (end offset length : ℕ) → end - offset < length → leb (offset + length) end ≡ false
+ends-past e o l h = lt-leb (o + l) e (omega arith)
+
+pub ends-inside : (end offset length : ℕ) → 8 ≤ length → length ≤ end - offset → leb (offset + length) end ≡ true
+ends-inside e o l f h = le-leb (o + l) e (omega arith)
 
 -- the rest of an entry's size after its fields, by the test of the code
 module _ (b size used : ℕ) where
@@ -35,14 +51,14 @@ module _ (b size used : ℕ) where
   rest-some h k = omega arith
 
 -- the place that stands beside a value is where its reading ends
-pub placed-passed : {A : Type 0} (r : Place) (v : A) → placeOut r ≡ passed (placed r v)
-placed-passed (places.At q) v = refl
-placed-passed (places.Refused r) v = refl
+pub placed-position : {A : Type 0} (r : Place) (v : A) → placeOut r ≡ positionOf (placed r v)
+placed-position (places.At q) v = refl
+placed-position (places.Refused r) v = refl
 
 -- a position alone is all that a reading with no value has
-pub passed-self : (r : Out (Unit {0})) → passed r ≡ r
-passed-self (found u q) = refl
-passed-self (refused n) = refl
+pub position-self : (r : Out (Unit {0})) → positionOf r ≡ r
+position-self (found u q) = refl
+position-self (refused n) = refl
 
 -- figures with neither name nor part
 abbrev pub bare : Out (Unit {0}) → Out Figures
@@ -66,16 +82,16 @@ ended s n (refused m) = refused m
 
 module _ (s : List ℕ) where
   -- what is kept of a body does not move its end
-  pub passed-kept : {A : Type 0} (F : Format A) (con : A → Kept) (p : ℕ) → passed (read s (bind F (λ a. done (con a))) p) ≡ passed (read s F p)
-  passed-kept {A} F con p = rw (read-bind s F (λ a. done (con a)) p) (go (read s F p))
+  pub position-kept : {A : Type 0} (F : Format A) (con : A → Kept) (p : ℕ) → positionOf (read s (bind F (λ a. done (con a))) p) ≡ positionOf (read s F p)
+  position-kept {A} F con p = rw (read-bind s F (λ a. done (con a)) p) (go (read s F p))
     where
-      go : (r : Out A) → passed (after s (λ a. done (con a)) r) ≡ passed r
+      go : (r : Out A) → positionOf (after s (λ a. done (con a)) r) ≡ positionOf r
       go (found a q) = rw (read-done s (con a) q)
       go (refused n) = refl
 
   -- a body with neither name nor part: its figures are known from its end
   abbrev Bare : Format Kept → Type 0
-  Bare F = (p : ℕ) → figuresOf (read s F p) ≡ bare (passed (read s F p))
+  Bare F = (p : ℕ) → figuresOf (read s F p) ≡ bare (positionOf (read s F p))
 
   bare-done : (k : Kept) → nameOf k ≡ parts.None → partOf k ≡ parts.None → Bare (done k)
   bare-done k e d p = rw (read-done s k p, e, d)
@@ -83,7 +99,7 @@ module _ (s : List ℕ) where
   bare-bind : {A : Type 0} (F : Format A) (con : A → Kept) → ((a : A) → Bare (done (con a))) → Bare (bind F (λ a. done (con a)))
   bare-bind {A} F con h p = rw (read-bind s F (λ a. done (con a)) p) (go (read s F p))
     where
-      go : (r : Out A) → figuresOf (after s (λ a. done (con a)) r) ≡ bare (passed (after s (λ a. done (con a)) r))
+      go : (r : Out A) → figuresOf (after s (λ a. done (con a)) r) ≡ bare (positionOf (after s (λ a. done (con a)) r))
       go (found a q) = h a q
       go (refused n) = refl
 
@@ -91,7 +107,7 @@ module _ (s : List ℕ) where
   bare-pick true F G f g = f
   bare-pick false F G f g = g
 
-  pub plain-figures : (st : State) (k p : ℕ) → figuresOf (read s (plainBody st k) p) ≡ bare (passed (read s (plainBody st k) p))
+  pub plain-figures : (st : State) (k p : ℕ) → figuresOf (read s (plainBody st k) p) ≡ bare (positionOf (read s (plainBody st k) p))
   unfolding plainBody
   plain-figures st k =
       bare-pick (eqb k 1) _ _ (bare-bind (dataSpace st) messages.dataSpace (λ d. bare-done (messages.dataSpace d) refl refl)) (

@@ -1,3 +1,4 @@
+pub mod Continuations
 pub mod Entries
 pub mod Answers
 pub mod Facts

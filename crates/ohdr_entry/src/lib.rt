@@ -3,22 +3,21 @@
 use helpers::Place;
 use helpers::ReadU8;
 use helpers::ReadU16;
+use helpers::ReadU64;
 use helpers::Taken;
 use helpers::le_u8;
 use helpers::le_u16;
 use helpers::take;
+use helpers::varint;
 use ohdr_attribute::AttributeRead;
 use ohdr_attribute::message_attribute;
 use ohdr_dataspace::message_data_space;
 use ohdr_datatype::DataTypeRead;
 use ohdr_datatype::message_data_type;
 use ohdr_info::AttributeInfoRead;
-use ohdr_info::Continuation;
-use ohdr_info::ContinuationRead;
 use ohdr_info::GroupInfoRead;
 use ohdr_info::LinkInfoRead;
 use ohdr_info::message_attribute_info;
-use ohdr_info::message_continuation;
 use ohdr_info::message_group_info;
 use ohdr_info::message_link_info;
 use ohdr_storage::PartRead;
@@ -38,8 +37,20 @@ ghost use Rattle.parser.specs.States.{Widths};
 ghost use Rattle.ohdr_info.specs.Info.{linkInfo, groupInfo, attributeInfo};
 ghost use Rattle.ohdr_datatype.specs.DataTypes.{dataType};
 ghost use Rattle.ohdr_dataspace.specs.DataSpaces.{dataSpace};
+ghost use Rattle.ohdr_entry.specs.Continuations.{continuation, continuationOut};
 ghost use Rattle.ohdr_entry.specs.Entries.{creationOrder, prefix as prefixFormat, plainBody, layoutBody, attributeBody, body, messageHeld, continuationHeld, closed, entry};
-ghost use Rattle.ohdr_entry.specs.Answers.{passed, prefixOut, figuresOf, bodyOut, seen, entryOut};
+ghost use Rattle.ohdr_entry.specs.Answers.{positionOf, prefixOut, figuresOf, bodyOut, seen, entryOut};
+
+// Where a continuation block stands, and how many bytes it has.
+pub struct Continuation {
+    pub offset: u64,
+    pub length: u64,
+}
+
+pub enum ContinuationRead {
+    Read(Continuation, usize),
+    Refused(Refusal),
+}
 
 // What stands before an entry's body.
 pub struct Prefix {
@@ -107,7 +118,7 @@ fn entry_prefix(file: &[u8], at: usize, header_flags: u8) -> PrefixRead
 
 fn body_data_space(file: &[u8], at: usize, state: State) -> Place
     requires { ⌜ Widths state ⌝ }
-    ensures { λ r. ⌜ placeOut r ≡ passed (read (now (file .entry)) (dataSpace state) at) ⌝ }
+    ensures { λ r. ⌜ placeOut r ≡ positionOf (read (now (file .entry)) (dataSpace state) at) ⌝ }
 {
     let answer = message_data_space(file, at, state);
     answer.answer
@@ -115,7 +126,7 @@ fn body_data_space(file: &[u8], at: usize, state: State) -> Place
 
 fn body_link_info(file: &[u8], at: usize, state: State) -> Place
     requires { ⌜ Widths state ⌝ }
-    ensures { λ r. ⌜ placeOut r ≡ passed (read (now (file .entry)) (linkInfo state) at) ⌝ }
+    ensures { λ r. ⌜ placeOut r ≡ positionOf (read (now (file .entry)) (linkInfo state) at) ⌝ }
 {
     match message_link_info(file, at, state) {
         LinkInfoRead::Read(_, next) => Place::At(next),
@@ -124,7 +135,7 @@ fn body_link_info(file: &[u8], at: usize, state: State) -> Place
 }
 
 fn body_data_type(file: &[u8], at: usize) -> Place
-    ensures { λ r. ⌜ placeOut r ≡ passed (read (now (file .entry)) (dataType 32) at) ⌝ }
+    ensures { λ r. ⌜ placeOut r ≡ positionOf (read (now (file .entry)) (dataType 32) at) ⌝ }
 {
     match message_data_type(file, at, 32) {
         DataTypeRead::Read(_, next) => Place::At(next),
@@ -133,7 +144,7 @@ fn body_data_type(file: &[u8], at: usize) -> Place
 }
 
 fn body_group_info(file: &[u8], at: usize) -> Place
-    ensures { λ r. ⌜ placeOut r ≡ passed (read (now (file .entry)) groupInfo at) ⌝ }
+    ensures { λ r. ⌜ placeOut r ≡ positionOf (read (now (file .entry)) groupInfo at) ⌝ }
 {
     match message_group_info(file, at) {
         GroupInfoRead::Read(_, next) => Place::At(next),
@@ -143,7 +154,7 @@ fn body_group_info(file: &[u8], at: usize) -> Place
 
 fn body_attribute_info(file: &[u8], at: usize, state: State) -> Place
     requires { ⌜ Widths state ⌝ }
-    ensures { λ r. ⌜ placeOut r ≡ passed (read (now (file .entry)) (attributeInfo state) at) ⌝ }
+    ensures { λ r. ⌜ placeOut r ≡ positionOf (read (now (file .entry)) (attributeInfo state) at) ⌝ }
 {
     match message_attribute_info(file, at, state) {
         AttributeInfoRead::Read(_, next) => Place::At(next),
@@ -154,7 +165,7 @@ fn body_attribute_info(file: &[u8], at: usize, state: State) -> Place
 // A body of which a row shows neither name nor part. A body that is skipped has no fields.
 fn plain_body(file: &[u8], at: usize, kind: u8, state: State) -> Place
     requires { ⌜ Widths state ⌝ }
-    ensures { λ r. ⌜ placeOut r ≡ passed (read (now (file .entry)) (plainBody state kind) at) ⌝ }
+    ensures { λ r. ⌜ placeOut r ≡ positionOf (read (now (file .entry)) (plainBody state kind) at) ⌝ }
 {
     match kind {
         1 => body_data_space(file, at, state),
@@ -241,6 +252,32 @@ fn close_entry(file: &[u8], body_at: usize, size: u16, used: usize) -> Taken
         return take(file, used, 0);
     }
     take(file, used, size - fields)
+}
+
+// The offset is tested before the length is read; their sum must not pass the end-of-file address.
+pub fn message_continuation(file: &[u8], at: usize, state: State) -> ContinuationRead
+    requires { ⌜ Widths state ⌝ }
+    ensures { λ r. ⌜ continuationOut r ≡ read (now (file .entry)) (continuation state) at ⌝ }
+{
+    let offsets = state.size_of_offsets;
+    let lengths = state.size_of_lengths;
+    let end = state.end_of_file_address;
+    let ReadU64::Value(offset, length_at) = varint(file, at, offsets) else {
+        return ContinuationRead::Refused(Refusal::Short);
+    };
+    if !state.is_address_valid(offset) {
+        return ContinuationRead::Refused(Refusal::ContinuationRange);
+    }
+    let ReadU64::Value(length, next) = varint(file, length_at, lengths) else {
+        return ContinuationRead::Refused(Refusal::Short);
+    };
+    if length < 8 {
+        return ContinuationRead::Refused(Refusal::ContinuationRange);
+    }
+    if end - offset < length {
+        return ContinuationRead::Refused(Refusal::ContinuationRange);
+    }
+    ContinuationRead::Read(Continuation { offset, length }, next)
 }
 
 // A continuation, closed. Its block is not read here.

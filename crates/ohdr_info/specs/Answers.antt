@@ -10,9 +10,6 @@ use Rattle.ohdr_info.specs.declared.GroupInfoRead.{GroupInfoRead}
 use Rattle.ohdr_info.specs.declared.GroupInfoRead.the-variants as groups
 use Rattle.ohdr_info.specs.declared.AttributeInfoRead.{AttributeInfoRead}
 use Rattle.ohdr_info.specs.declared.AttributeInfoRead.the-variants as attributes
-use Rattle.ohdr_info.specs.declared.Continuation.{Continuation}
-use Rattle.ohdr_info.specs.declared.ContinuationRead.{ContinuationRead}
-use Rattle.ohdr_info.specs.declared.ContinuationRead.the-variants as continuations
 
 abbrev pub linkInfoOut : LinkInfoRead → Out LinkInfo
 linkInfoOut (links.Read v q) = found v q
@@ -25,7 +22,3 @@ groupInfoOut (groups.Refused r) = refused (refusalNumber r)
 abbrev pub attributeInfoOut : AttributeInfoRead → Out AttributeInfo
 attributeInfoOut (attributes.Read v q) = found v q
 attributeInfoOut (attributes.Refused r) = refused (refusalNumber r)
-
-abbrev pub continuationOut : ContinuationRead → Out Continuation
-continuationOut (continuations.Read v q) = found v q
-continuationOut (continuations.Refused r) = refused (refusalNumber r)

@@ -1,8 +1,8 @@
--- The messages on links and attributes, and the continuation message, by the sections of the HDF5 File Format Specification.
+-- The messages on links and attributes, by the sections of the HDF5 File Format Specification.
 -- Assumes nothing: these are definitions.
-use Prim.Native.Nat.{ℕ, _+_}
-use mathlib.Core.Bool.{Bool, _&&_}
-use lib.Dec.{eqb, leb}
+use Prim.Native.Nat.{ℕ}
+use mathlib.Core.Bool.{Bool}
+use lib.Dec.{eqb}
 use Rattle.format.specs.Bits.{bit}
 use Rattle.format.specs.Format.{Format, done, number, bind, check, pick}
 use Rattle.records.specs.declared.OptionU16.{OptionU16}
@@ -13,8 +13,6 @@ use Rattle.records.specs.declared.LinkInfo.{LinkInfo}
 use Rattle.records.specs.declared.GroupInfo.{GroupInfo}
 use Rattle.records.specs.declared.AttributeInfo.{AttributeInfo}
 use Rattle.parser.specs.declared.State.{State}
-use Rattle.parser.specs.States.{addressValid}
-use Rattle.ohdr_info.specs.declared.Continuation.{Continuation}
 
 -- a number of w bytes where it is present, and else nothing, which counts as zero
 unfoldable pub cond : Bool → ℕ → Format ℕ
@@ -80,12 +78,3 @@ attributeInfo s =
       «attribute_name_btree» = attribute-name-address;
       «attribute_creation_order_btree» = attribute-creation-order-address;
     }))))))))
-
--- IV.A.2.q, continuation: 0 < offset < end-of-file, 8 ≤ length, offset + length ≤ end-of-file
-unfoldable pub continuation : State → Format Continuation
-continuation s =
-    number (s .«size_of_offsets») (λ offset.
-    check (addressValid s offset) 19 (
-    number (s .«size_of_lengths») (λ length.
-    check (leb 8 length && leb (offset + length) (s .«end_of_file_address»)) 19 (
-    done {A = Continuation} (record { offset = offset; length = length })))))

@@ -1,5 +1,5 @@
-// The messages that describe an object's links and attributes, and the continuation message: link
-// info, group info, attribute info, continuation (ohdr_message.rs).
+// The messages that describe an object's links and attributes: link info, group info, attribute info
+// (ohdr_message.rs).
 use helpers::ReadU8;
 use helpers::ReadU16;
 use helpers::ReadU64;
@@ -18,8 +18,8 @@ ghost use Prim.Native.Nat.{_≤_};
 ghost use Rattle.format.specs.Format.{read};
 ghost use Rattle.helpers.specs.Answers.{u16Out, u64Out};
 ghost use Rattle.parser.specs.States.{Widths};
-ghost use Rattle.ohdr_info.specs.Info.{cond, some16, some64, linkInfo, groupInfo, attributeInfo, continuation};
-ghost use Rattle.ohdr_info.specs.Answers.{linkInfoOut, groupInfoOut, attributeInfoOut, continuationOut};
+ghost use Rattle.ohdr_info.specs.Info.{cond, some16, some64, linkInfo, groupInfo, attributeInfo};
+ghost use Rattle.ohdr_info.specs.Answers.{linkInfoOut, groupInfoOut, attributeInfoOut};
 
 pub enum LinkInfoRead {
     Read(LinkInfo, usize),
@@ -33,17 +33,6 @@ pub enum GroupInfoRead {
 
 pub enum AttributeInfoRead {
     Read(AttributeInfo, usize),
-    Refused(Refusal),
-}
-
-// Where a continuation block stands, and how many bytes it has.
-pub struct Continuation {
-    pub offset: u64,
-    pub length: u64,
-}
-
-pub enum ContinuationRead {
-    Read(Continuation, usize),
     Refused(Refusal),
 }
 
@@ -206,30 +195,4 @@ pub fn message_attribute_info(file: &[u8], at: usize, state: State) -> Attribute
         },
         next,
     )
-}
-
-// The offset is tested before the length is read; their sum must not pass the end-of-file address.
-pub fn message_continuation(file: &[u8], at: usize, state: State) -> ContinuationRead
-    requires { ⌜ Widths state ⌝ }
-    ensures { λ r. ⌜ continuationOut r ≡ read (now (file .entry)) (continuation state) at ⌝ }
-{
-    let offsets = state.size_of_offsets;
-    let lengths = state.size_of_lengths;
-    let end = state.end_of_file_address;
-    let ReadU64::Value(offset, length_at) = varint(file, at, offsets) else {
-        return ContinuationRead::Refused(Refusal::Short);
-    };
-    if !state.is_address_valid(offset) {
-        return ContinuationRead::Refused(Refusal::ContinuationRange);
-    }
-    let ReadU64::Value(length, next) = varint(file, length_at, lengths) else {
-        return ContinuationRead::Refused(Refusal::Short);
-    };
-    if length < 8 {
-        return ContinuationRead::Refused(Refusal::ContinuationRange);
-    }
-    if end - offset < length {
-        return ContinuationRead::Refused(Refusal::ContinuationRange);
-    }
-    ContinuationRead::Read(Continuation { offset, length }, next)
 }

@@ -22,7 +22,7 @@ use Rattle.grammar.specs.Grammar.{ochk, blockEnd}
 use Rattle.grammar.specs.Walk.{Went, reached, stopped, andThen, begun}
 use Rattle.grammar.specs.WalkLaws.{choose-yes, choose-no, then-reached, then-stopped, found-then, refused-then}
 use Rattle.grammar.specs.Filled.{Walked, state≡, holdOn, entry-on}
-use Rattle.ohdr_info.specs.declared.Continuation.{Continuation}
+use Rattle.ohdr_entry.specs.declared.Continuation.{Continuation}
 use Rattle.ohdr_entry.specs.Answers.{entryOut, seen}
 use Rattle.ohdr_entry.specs.Entered.{Continued, continued, seen-row, seen-continuation, seen-refused}
 use Rattle.ohdr_entry.specs.Entries.{prefixSize, entry}

@@ -19,11 +19,15 @@ pub record Widths (s : State) : Type 0 where
   pub lengths-least : 2 ≤ s .«size_of_lengths»
   pub lengths : s .«size_of_lengths» ≤ 8
 
--- the state of two widths and an end-of-file address, or the refusal of a width
+-- the state of these widths and this end-of-file address
+abbrev pub stateFor : ℕ → ℕ → ℕ → State
+stateFor offsets lengths end = record { «size_of_lengths» = lengths; «size_of_offsets» = offsets; «end_of_file_address» = end }
+
+-- the same where both widths are allowed, or the refusal of a width
 abbrev pub stateOf : ℕ → ℕ → ℕ → NewState
 stateOf offsets lengths end =
     pick (widthAllowed offsets && widthAllowed lengths)
-    (states.Made (record { «size_of_lengths» = lengths; «size_of_offsets» = offsets; «end_of_file_address» = end }))
+    (states.Made (stateFor offsets lengths end))
     (states.Refused refusals.Width)
 
 -- an address of something in the file: above zero and below the end-of-file address

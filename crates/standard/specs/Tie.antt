@@ -9,14 +9,8 @@ use native.Mathlib.Omega.{arith}
 use lib.ListN.{length}
 use Rattle.format.specs.Bytes.{le}
 use Rattle.format.specs.Format.{Format, done, refuse, number, skip, there, Stands, bind, times, check, pick, nothing}
-use Rattle.format.specs.Laws.{sound, complete}
-use Rattle.format.specs.Steps.{read-bind}
-use Rattle.format.specs.Standing.{stands-bind, stands-check}
+use Rattle.format.specs.Standing.{stands-bind, stands-check, bind-stands}
 use Rattle.standard.specs.Fields.{Optional, absent, present, Bytes, only, optional, raw, many}
-
--- the converse of stands-bind
-pub bind-stands : {A B : Type 0} (s : List ℕ) (F : Format A) (k : A → Format B) (p m q : ℕ) (a : A) (b : B) → Stands s F p m a → Stands s (k a) m q b → Stands s (bind F k) p q b
-bind-stands s F k p m q a b h i = sound s (bind F k) p q b (rw (read-bind, complete s F p m a h) (complete s (k a) m q b i))
 
 -- G stands from p to q, and its value is related to a
 pub record Stood {A B : Type 0} (R : A → B → Type 0) (G : Format B) (s : List ℕ) (p q : ℕ) (a : A) : Type 0 where

@@ -4,7 +4,8 @@ use mathlib.Core.Path.{refl}
 use mathlib.Core.Logic.{_⊎_, inl, inr}
 use mathlib.Core.List.{List}
 use Rattle.format.specs.Format.{Format, done, bind}
-use Rattle.standard.specs.Tie.{bind-stands, Stood, TiedBut}
+use Rattle.standard.specs.Tie.{Stood, TiedBut}
+use Rattle.format.specs.Standing.{bind-stands}
 
 -- a value that is made of the other's
 pub stood-map : {A B C : Type 0} {S : A → B → Type 0} {R : A → C → Type 0} {G : Format B} {s : List ℕ} {p q : ℕ} {a : A} (f : B → C)

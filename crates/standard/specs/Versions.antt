@@ -8,7 +8,8 @@ use borrow.Author.Tests.{eq-eqb}
 use Rattle.format.specs.Bytes.{le}
 use Rattle.format.specs.Format.{Format, done, number, here, there, bind, Stands}
 use Rattle.standard.specs.Fields.{only}
-use Rattle.standard.specs.Tie.{Tied, Stood, onward, bind-stands}
+use Rattle.standard.specs.Tie.{Tied, Stood, onward}
+use Rattle.format.specs.Standing.{bind-stands}
 
 -- the version is looked at, and then the whole table of that version stands
 unfoldable pub byVersion : {A : Type 0} → (ℕ → Format A) → Format A

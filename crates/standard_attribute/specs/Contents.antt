@@ -11,7 +11,7 @@ use borrow.Author.Tests.{eqb-true, eqb-false, eq-eqb, ltb-true, ltb-false, leb-f
 use Rattle.format.specs.Bytes.{le, Trimmed}
 use Rattle.format.specs.BytesLaws.{by-le}
 use Rattle.format.specs.Format.{Format, done, number, skip, here, Stands, bind, pick}
-use Rattle.format.specs.Standing.{stands-bind, stands-check}
+use Rattle.format.specs.Standing.{stands-bind, stands-check, bind-stands}
 use Rattle.records.specs.declared.OptionPart.{OptionPart}
 use Rattle.records.specs.declared.OptionPart.the-variants as parts
 use Rattle.records.specs.declared.DataType.{DataType}
@@ -21,7 +21,7 @@ use Rattle.ohdr_datatype.specs.DataTypes.{classOf, dataType, typeLevels}
 use Rattle.ohdr_dataspace.specs.DataSpaces as spaces
 use Rattle.ohdr_attribute.specs.Attributes.{padding, textValue, listValue, otherValue, value, spaceValue, typeSpaceValue}
 use Rattle.standard.specs.Fields.{only}
-use Rattle.standard.specs.Tie.{bind-stands, Stood}
+use Rattle.standard.specs.Tie.{Stood}
 use Rattle.standard.specs.Datatypes.{class, Datatype, headerOf, datatypeMessage}
 use Rattle.standard.specs.Dataspaces.{Dataspace, version-1, version-2, dataspaceMessage}
 use Rattle.standard.specs.Attributes.{sized, Described, described, product, elements, rawSize}

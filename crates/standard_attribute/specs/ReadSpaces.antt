@@ -12,7 +12,7 @@ use Rattle.format.specs.Bits.{bit}
 use Rattle.format.specs.Bytes.{le}
 use Rattle.format.specs.Format.{Format, done, refuse, number, bind, pick, Stands}
 use Rattle.format.specs.Laws.{unique}
-use Rattle.format.specs.Standing.{stands-bind, stands-check}
+use Rattle.format.specs.Standing.{stands-bind, stands-check, bind-stands}
 use Rattle.records.specs.declared.OptionU8.the-variants as options8
 use Rattle.records.specs.Defaults.{noDimensions}
 use Rattle.records.specs.declared.Dimensions.{Dimensions}
@@ -22,7 +22,7 @@ use Rattle.ohdr_dataspace.specs.declared.DataSpaceHeader.{DataSpaceHeader}
 use Rattle.ohdr_dataspace.specs.DataSpaces.{unlimited, dimension, dimensionsFrom, dimensions, kind, dataSpaceHeader, maximumSizes, dataSpaceOf, dataSpaceSizes, dataSpace}
 use Rattle.ohdr_dataspace.specs.DataSpaces as spaces
 use Rattle.standard.specs.Fields.{many}
-use Rattle.standard.specs.Tie.{bind-stands, Every}
+use Rattle.standard.specs.Tie.{Every}
 use Rattle.standard.specs.Versions.{byVersion, marked}
 use Rattle.standard.specs.Dataspaces.{Stored, not-stored, stored, storedSizes, Dataspace1, dataspace1, Dataspace2, dataspace2, Dataspace, version-1, version-2, dataspaceMessage}
 use Rattle.standard.specs.Attributes.{product, elements}

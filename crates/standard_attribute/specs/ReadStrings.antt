@@ -7,14 +7,13 @@ use native.Mathlib.Omega.{arith}
 use lib.Dec.{eqb}
 use borrow.Author.Tests.{lt-ltb}
 use Rattle.format.specs.Format.{Format, done, bind, Stands}
-use Rattle.format.specs.Standing.{stands-bind, stands-check}
+use Rattle.format.specs.Standing.{stands-bind, stands-check, bind-stands}
 use Rattle.records.specs.declared.OptionDataFormat.{OptionDataFormat}
 use Rattle.records.specs.declared.OptionDataFormat.the-variants as optionFormats
 use Rattle.records.specs.declared.DataType.{DataType}
 use Rattle.ohdr_datatype.specs.declared.DataTypeHeader.{DataTypeHeader}
 use Rattle.ohdr_datatype.specs.DataTypes.{classOf, knownClass, knownType, dataTypeHeader, plain, listSize, typeLayer, dataType}
 use Rattle.ohdr_datatype.specs.DataTypes as ours
-use Rattle.standard.specs.Tie.{bind-stands}
 use Rattle.standard.specs.Datatypes.{DatatypeHeader, datatypeHeader, class, version, Datatype, datatype, headerOf, Properties, properties, datatypeOf, datatypeMessage}
 
 module _ (s : List ℕ) where

@@ -13,7 +13,7 @@ use Rattle.format.specs.Bits.{bit}
 use Rattle.format.specs.Bytes.{le, Trimmed}
 use Rattle.format.specs.BytesLaws.{by-le}
 use Rattle.format.specs.Format.{Format, done, number, skip, text, here, Stands, bind, check}
-use Rattle.format.specs.Standing.{stands-bind, stands-check}
+use Rattle.format.specs.Standing.{stands-bind, stands-check, bind-stands}
 use Rattle.records.specs.declared.OptionPart.{OptionPart}
 use Rattle.records.specs.declared.Part.{Part}
 use Rattle.records.specs.declared.Attribute as ours
@@ -23,7 +23,7 @@ use Rattle.ohdr_attribute.specs.declared.AttributeFields.{AttributeFields}
 use Rattle.ohdr_attribute.specs.Attributes.{namePadding, padding, nameAndValue, encoding, attributeFields, attribute}
 use Rattle.ohdr_attribute.specs.Without.{With, Without, with-or-without}
 use Rattle.standard.specs.Fields.{raw}
-use Rattle.standard.specs.Tie.{bind-stands, Stood, Tied, tied-done, tied-number, tied-check}
+use Rattle.standard.specs.Tie.{Stood, Tied, tied-done, tied-number, tied-check}
 use Rattle.standard.specs.Versions.{version-stands, marked-stands}
 use Rattle.standard.specs.Datatypes.{toMultipleOf8}
 use Rattle.standard.specs.AttributeRules.{NullTerminated}

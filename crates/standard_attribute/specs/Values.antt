@@ -14,7 +14,7 @@ use Rattle.format.specs.Bytes.{le, Trimmed, textLength}
 use Rattle.format.specs.BytesLaws.{trimmed-found}
 use Rattle.format.specs.Format.{Format, done, refuse, skip, here, bind, pick, Stands}
 use Rattle.format.specs.Laws.{unique}
-use Rattle.format.specs.Standing.{stands-bind, stands-check}
+use Rattle.format.specs.Standing.{stands-bind, stands-check, bind-stands}
 use Rattle.records.specs.declared.OptionPart.{OptionPart}
 use Rattle.records.specs.declared.OptionPart.the-variants as parts
 use Rattle.records.specs.declared.Part.{Part}
@@ -27,7 +27,6 @@ use Rattle.ohdr_dataspace.specs.DataSpaces as spaces
 use Rattle.ohdr_attribute.specs.Attributes.{namePadding, padding, textValue, value, spaceValue, typeSpaceValue, encoding, attributeFields, attribute}
 use Rattle.ohdr_attribute.specs.Without.{with-or-without}
 use Rattle.standard.specs.Fields.{Bytes, only, raw}
-use Rattle.standard.specs.Tie.{bind-stands}
 use Rattle.standard.specs.Versions.{byVersion, marked}
 use Rattle.standard.specs.Datatypes.{toMultipleOf8, datatypeMessage}
 use Rattle.standard.specs.Dataspaces.{dataspaceMessage}

@@ -10,9 +10,10 @@ use lib.Dec.{eqb, ltb}
 use lib.ListN.{length, getD}
 use borrow.Author.Tests.{eqb-true, eqb-false, ltb-true, lt-ltb}
 use Rattle.format.specs.Bytes.{le, Named}
-use Rattle.format.specs.BytesLaws.{by-le, and-left, and-right}
+use Rattle.format.specs.BytesLaws.{by-le}
+use Rattle.format.specs.Bools.{and-left, and-right}
 use Rattle.format.specs.Format.{Format, done, number, skip, name, Stands, bind, times, pick, nothing}
-use Rattle.format.specs.Standing.{stands-bind}
+use Rattle.format.specs.Standing.{stands-bind, bind-stands}
 use Rattle.records.specs.declared.OptionDataFormat.{OptionDataFormat}
 use Rattle.records.specs.declared.OptionDataFormat.the-variants as optionFormats
 use Rattle.records.specs.declared.DataType.{DataType}
@@ -21,7 +22,7 @@ use Rattle.ohdr_datatype.specs.declared.FloatProperties.{FloatProperties}
 use Rattle.ohdr_datatype.specs.DataTypes.{classOf, versionOf, knownVersion, knownClass, knownType, dataTypeHeader, fixedProperties, floatProperties, ieee, floatFormat, memberFields, member, plain, listProperties, listSize, typeLayer, dataType}
 use Rattle.ohdr_datatype.specs.DataTypes as ours
 use Rattle.standard.specs.Fields.{only}
-use Rattle.standard.specs.Tie.{bind-stands, Stood, Tied, TiedBut, tied-done, tied-number, tied-check, tied-bind, but-tied, but-more, Either, in-first, in-second, but-bind}
+use Rattle.standard.specs.Tie.{Stood, Tied, TiedBut, tied-done, tied-number, tied-check, tied-bind, but-tied, but-more, Either, in-first, in-second, but-bind}
 use Rattle.standard.specs.TieMore.{but-map}
 use Rattle.standard.specs.Datatypes.{DatatypeHeader, datatypeHeader, version, fixedPoint, FloatingPoint, floatingPoint, terminated, Member3, member3, Datatype, datatype, Properties, fixed-point, floating-point, members, parent-type, Members, no-members, version-3, members1, members3, compound, properties, datatypeOf, datatypeMessage}
 use Rattle.standard_datatype.specs.Differences.{LongName, TypeDiffers, in-properties, PropertiesDiffer, members-of-version-1, compound-of-size-0, in-members, in-parent-type, MembersDiffer, long-name, in-member-type, in-later}

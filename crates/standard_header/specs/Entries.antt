@@ -10,14 +10,14 @@ use lib.ListN.{length}
 use lib.Dec.{eqb}
 use borrow.Author.Tests.{eqb-true, eqb-false}
 use Rattle.format.specs.Format.{pick, Stands}
-use Rattle.format.specs.Standing.{stands-bind}
+use Rattle.format.specs.Standing.{stands-bind, bind-stands}
 use Rattle.parser.specs.declared.State.{State}
 use Rattle.grammar.specs.Message.{Message, Held, message, continuation}
 use Rattle.ohdr_info.specs.Info as info
 use Rattle.ohdr_entry.specs.declared.Prefix.{Prefix}
 use Rattle.ohdr_entry.specs.Entries.{prefix, body, messageHeld, continuationHeld, closed, entry}
 use Rattle.standard.specs.Fields.{Bytes, raw}
-use Rattle.standard.specs.Tie.{Stood, bind-stands}
+use Rattle.standard.specs.Tie.{Stood}
 use Rattle.standard.specs.Headers.{MessagePrefix, messagePrefix, HeaderMessage, headerMessage, continuationMessage}
 use Rattle.standard_messages.specs.Infos.{SameContinuation, continuation-tied}
 use Rattle.standard_header.specs.Prefixes.{prefix-tied}

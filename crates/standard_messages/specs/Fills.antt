@@ -12,10 +12,10 @@ use borrow.Author.Tests.{eq-eqb, ne-eqb, eqb-true, eqb-false, leb-true, lt-ltb}
 use Rattle.format.specs.Bits.{bit}
 use Rattle.format.specs.Bytes.{le}
 use Rattle.format.specs.Format.{done, refuse, number, pick, nothing, Stands}
-use Rattle.format.specs.Standing.{stands-check}
+use Rattle.format.specs.Standing.{stands-check, bind-stands}
 use Rattle.ohdr_storage.specs.Storage.{fillValue, fill12, fill3, fill}
 use Rattle.standard.specs.Fields.{only}
-use Rattle.standard.specs.Tie.{Tied, TiedBut, Stood, tied-done, tied-number, tied-check, tied-only, tied-raw, bind-stands}
+use Rattle.standard.specs.Tie.{Tied, TiedBut, Stood, tied-done, tied-number, tied-check, tied-only, tied-raw}
 use Rattle.standard.specs.Versions.{version-stands, marked, marked-stands, tied-marked}
 use Rattle.standard.specs.Storage.{sizeAndFillValue, FillFields12, fillFields12, FillValue12, fillValue12, ValidFillValue12, fillValue3, FillValue, versions-1-and-2, version-3, fillValueMessage}
 

@@ -12,10 +12,10 @@ use borrow.Author.Tests.{eqb-true, eqb-false, lt-leb, ltb-true}
 use Rattle.format.specs.Bytes.{le}
 use Rattle.format.specs.BytesLaws.{by-le, le-split}
 use Rattle.format.specs.Format.{Format, done, number, skip, bind, times, check, pick, nothing, Stands}
-use Rattle.format.specs.Standing.{stands-bind, stands-check}
+use Rattle.format.specs.Standing.{stands-bind, stands-check, bind-stands}
 use Rattle.ohdr_storage.specs.Storage.{paddedName, filter1, filter2, filterOf, reserved, filterPipeline}
 use Rattle.standard.specs.Fields.{absent, present, optional, raw, many}
-use Rattle.standard.specs.Tie.{Tied, TiedBut, Stood, Among, Every, but-times, tied-done, tied-raw, tied-skip-many, tied-skip-none, tied-skip-number, tied-more, onward, bind-stands}
+use Rattle.standard.specs.Tie.{Tied, TiedBut, Stood, Among, Every, but-times, tied-done, tied-raw, tied-skip-many, tied-skip-none, tied-skip-number, tied-more, onward}
 use Rattle.standard.specs.Versions.{version-stands, marked, marked-stands, tied-marked}
 use Rattle.standard.specs.Storage.{FilterFields1, filterFields1, FilterDescription1, filterDescription1, PipelineFields1, pipelineFields1, FilterPipeline1, filterPipeline1, ValidFilterPipeline1}
 use Rattle.standard.specs.Storage.{FilterFields2, filterFields2, orNone, FilterDescription2, filterDescription2, PipelineFields2, pipelineFields2, filterPipeline2, ValidFilterPipeline2}

@@ -11,8 +11,9 @@ use Rattle.records.specs.declared.GroupInfo.{GroupInfo}
 use Rattle.records.specs.declared.AttributeInfo.{AttributeInfo}
 use Rattle.parser.specs.declared.State.{State}
 use Rattle.parser.specs.States.{addressValid}
-use Rattle.ohdr_info.specs.declared.Continuation.{Continuation}
-use Rattle.ohdr_info.specs.Info.{cond, linkInfo, groupInfo, attributeInfo, continuation}
+use Rattle.ohdr_entry.specs.declared.Continuation.{Continuation}
+use Rattle.ohdr_info.specs.Info.{cond, linkInfo, groupInfo, attributeInfo}
+use Rattle.ohdr_entry.specs.Continuations.{continuation}
 use Rattle.standard.specs.Fields.{Optional, only, optional}
 use Rattle.standard.specs.Tie.{Tied, tied-done, tied-number, tied-check, tied-only, tied-bind}
 use Rattle.standard.specs.Headers.{ContinuationMessage, continuationMessage}

@@ -17,10 +17,10 @@ enum-known-place-2 c = search needs
 
 returns : tie.Need-returns
 unfolding spaceValue
-returns c = rw (read-here, read-bind, ← c .before .before .before .before .message-data-space .ensures, c .before .place2 .given .1)
+returns c = rw (read-here, read-bind, ← c .before .before .before .before .message-data-space .ensures .0, c .before .place2 .given .1)
 
 sub-eight-padding : tie.Need-sub-eight-padding
-sub-eight-padding c = read-forward (c .before .before .before .before .before .before .args .file .now) (dataSpace (c .before .before .before .before .before .before .args .state)) (c .before .before .before .before .before .before .args .at) (c .before .place .given .0 .0) (c .before .before .before .before .message-data-space .result .«data_space») (rw (← c .before .before .before .before .message-data-space .ensures, c .before .place .given .1))
+sub-eight-padding c = read-forward (c .before .before .before .before .before .before .args .file .now) (dataSpace (c .before .before .before .before .before .before .args .state)) (c .before .before .before .before .before .before .args .at) (c .before .place .given .0 .0) (c .before .before .before .before .message-data-space .result .«data_space») (rw (← c .before .before .before .before .message-data-space .ensures .0, c .before .place .given .1))
 
 eight-padding-requires : tie.Need-eight-padding-requires
 eight-padding-requires c κs = search needs
@@ -36,14 +36,14 @@ enum-told c = search needs
 
 returns-2 : tie.Need-returns-2
 unfolding spaceValue
-returns-2 c = rw (read-here, read-bind, ← c .before .before .before .before .before .before .before .before .message-data-space .ensures, c .before .before .before .before .before .place .given .1, read-here, read-skip, ← c .before .before .before .eight-padding .ensures, ← c .before .before .take .ensures, c .enum-told .given .1)
+returns-2 c = rw (read-here, read-bind, ← c .before .before .before .before .before .before .before .before .message-data-space .ensures .0, c .before .before .before .before .before .place .given .1, read-here, read-skip, ← c .before .before .before .eight-padding .ensures, ← c .before .before .take .ensures, c .enum-told .given .1)
 
 attribute-value-requires : tie.Need-attribute-value-requires
 attribute-value-requires c κs = search needs
 
 returns-3 : tie.Need-returns-3
 unfolding spaceValue
-returns-3 c = rw (read-here, read-bind, ← c .before .before .before .before .before .before .before .before .before .before .message-data-space .ensures, c .before .before .before .before .before .before .before .place .given .1, read-here, read-skip, ← c .before .before .before .before .before .eight-padding .ensures, ← c .before .before .before .before .take .ensures, c .before .before .value-at .given .1) (c .attribute-value .ensures)
+returns-3 c = rw (read-here, read-bind, ← c .before .before .before .before .before .before .before .before .before .before .message-data-space .ensures .0, c .before .before .before .before .before .before .before .place .given .1, read-here, read-skip, ← c .before .before .before .before .before .eight-padding .ensures, ← c .before .before .before .before .take .ensures, c .before .before .value-at .given .1) (c .attribute-value .ensures)
 
 pub space-and-value-spec : {M : Type 1} → statement M
 space-and-value-spec =

@@ -19,7 +19,7 @@ no-data-space-requires c κs = search needs
 
 returns : tie.Need-returns
 unfolding dataSpaceSizes
-returns c = rw (read-bind, ← c .before .before .before .before .dimensions .ensures, c .before .before .sizes-end2 .given .1) (c .no-data-space .ensures)
+returns c = (rw (read-bind, ← c .before .before .before .before .dimensions .ensures, c .before .before .sizes-end2 .given .1) (c .no-data-space .ensures .0), c .no-data-space .ensures .1)
 
 maximum-sizes-requires : tie.Need-maximum-sizes-requires
 maximum-sizes-requires c κs = search needs
@@ -35,11 +35,11 @@ no-data-space-requires-2 c κs = search needs
 
 returns-2 : tie.Need-returns-2
 unfolding dataSpaceSizes
-returns-2 c = rw (read-bind, ← c .before .before .before .before .before .before .before .before .before .dimensions .ensures, c .before .before .before .before .before .before .before .sizes-end .given .1, read-bind, ← bit-test (c .before .before .before .before .before .before .before .before .before .before .before .args .header .flags) 0, ← c .before .before .before .before .maximum-sizes .ensures, c .before .before .maximum-end2 .given .1) (c .no-data-space2 .ensures)
+returns-2 c = (rw (read-bind, ← c .before .before .before .before .before .before .before .before .before .dimensions .ensures, c .before .before .before .before .before .before .before .sizes-end .given .1, read-bind, ← bit-test (c .before .before .before .before .before .before .before .before .before .before .before .args .header .flags) 0, ← c .before .before .before .before .maximum-sizes .ensures, c .before .before .maximum-end2 .given .1) (c .no-data-space2 .ensures .0), c .no-data-space2 .ensures .1)
 
 returns-3 : tie.Need-returns-3
 unfolding dataSpaceSizes
-returns-3 c = rw (read-bind, ← c .before .before .before .before .before .before .before .before .before .before .dimensions .ensures, c .before .before .before .before .before .before .before .before .sizes-end .given .1, read-bind, ← bit-test (c .before .before .before .before .before .before .before .before .before .before .before .before .args .header .flags) 0, ← c .before .before .before .before .before .maximum-sizes .ensures, c .before .before .before .maximum-end .given .1, read-done)
+returns-3 c = (rw (read-bind, ← c .before .before .before .before .before .before .before .before .before .before .dimensions .ensures, c .before .before .before .before .before .before .before .before .sizes-end .given .1, read-bind, ← bit-test (c .before .before .before .before .before .before .before .before .before .before .before .before .args .header .flags) 0, ← c .before .before .before .before .before .maximum-sizes .ensures, c .before .before .before .maximum-end .given .1, read-done), tt)
 
 pub data-space-sizes-spec : {M : Type 1} → statement M
 data-space-sizes-spec =

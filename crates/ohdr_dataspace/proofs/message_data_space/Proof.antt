@@ -26,11 +26,11 @@ no-data-space-requires c κs = search needs
 
 returns : tie.Need-returns
 unfolding dataSpace
-returns c = rw (read-bind, ← c .before .before .before .before .data-space-header .ensures, c .before .before .header .given .1) (c .data-space-sizes .ensures)
+returns c = (rw (read-bind, ← c .before .before .before .before .data-space-header .ensures, c .before .before .header .given .1) (c .data-space-sizes .ensures .0), c .data-space-sizes .ensures .1)
 
 returns-2 : tie.Need-returns-2
 unfolding dataSpace
-returns-2 c = rw (read-bind, ← c .before .before .before .before .data-space-header .ensures, c .before .before .r .given .1) (c .no-data-space .ensures)
+returns-2 c = (rw (read-bind, ← c .before .before .before .before .data-space-header .ensures, c .before .before .r .given .1) (c .no-data-space .ensures .0), c .no-data-space .ensures .1)
 
 pub message-data-space-spec : {M : Type 1} → statement M
 message-data-space-spec =

@@ -1,6 +1,6 @@
 use Rattle.ohdr_entry.specs.Facts.{seen-closed}
 use Rattle.ohdr_entry.specs.Entries.{continuationHeld}
-use Rattle.ohdr_info.specs.Answers.{continuationOut}
+use Rattle.ohdr_entry.specs.Continuations.{continuationOut}
 use Rattle.format.specs.Steps.{read-bind, read-done}
 use Rattle.format.specs.Standing.{read-forward}
 use mathlib.Core.Path.{sym, _∙_, ap}

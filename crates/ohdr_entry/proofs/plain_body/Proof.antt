@@ -1,6 +1,6 @@
 use Rattle.grammar.specs.Message as messages
 use borrow.Author.Tests.{ne-eqb}
-use Rattle.ohdr_entry.specs.Facts.{passed-kept, passed-self}
+use Rattle.ohdr_entry.specs.Facts.{position-kept, position-self}
 use Rattle.ohdr_entry.specs.Entries.{plainBody}
 use Rattle.format.specs.Steps.{read-done}
 use borrow.Author.Needs.{needs}
@@ -33,35 +33,35 @@ body-attribute-info-requires c κs = search needs
 
 returns : tie.Need-returns
 unfolding plainBody
-returns c = rw (c .before .match .keys1, passed-kept _ _ messages.dataSpace) (c .body-data-space .ensures)
+returns c = rw (c .before .match .keys1, position-kept _ _ messages.dataSpace) (c .body-data-space .ensures)
 
 returns-2 : tie.Need-returns-2
 unfolding plainBody
-returns-2 c = rw (c .before .match .keys2, passed-kept _ _ messages.linkInfo) (c .body-link-info .ensures)
+returns-2 c = rw (c .before .match .keys2, position-kept _ _ messages.linkInfo) (c .body-link-info .ensures)
 
 returns-3 : tie.Need-returns-3
 unfolding plainBody
-returns-3 c = rw (c .before .match .keys3, passed-kept _ _ messages.dataType) (c .body-data-type .ensures)
+returns-3 c = rw (c .before .match .keys3, position-kept _ _ messages.dataType) (c .body-data-type .ensures)
 
 returns-4 : tie.Need-returns-4
 unfolding plainBody
-returns-4 c = rw (c .before .match .keys4, passed-kept _ _ (λ _. messages.nothing), passed-self) (c .message-data-fill-old .ensures)
+returns-4 c = rw (c .before .match .keys4, position-kept _ _ (λ _. messages.nothing), position-self) (c .message-data-fill-old .ensures)
 
 returns-5 : tie.Need-returns-5
 unfolding plainBody
-returns-5 c = rw (c .before .match .keys5, passed-kept _ _ (λ _. messages.nothing), passed-self) (c .message-data-fill .ensures)
+returns-5 c = rw (c .before .match .keys5, position-kept _ _ (λ _. messages.nothing), position-self) (c .message-data-fill .ensures)
 
 returns-6 : tie.Need-returns-6
 unfolding plainBody
-returns-6 c = rw (c .before .match .keys6, passed-kept _ _ messages.groupInfo) (c .body-group-info .ensures)
+returns-6 c = rw (c .before .match .keys6, position-kept _ _ messages.groupInfo) (c .body-group-info .ensures)
 
 returns-7 : tie.Need-returns-7
 unfolding plainBody
-returns-7 c = rw (c .before .match .keys7, passed-kept _ _ (λ _. messages.nothing), passed-self) (c .message-filter-pipeline .ensures)
+returns-7 c = rw (c .before .match .keys7, position-kept _ _ (λ _. messages.nothing), position-self) (c .message-filter-pipeline .ensures)
 
 returns-8 : tie.Need-returns-8
 unfolding plainBody
-returns-8 c = rw (c .before .match .keys8, passed-kept _ _ messages.attributeInfo) (c .body-attribute-info .ensures)
+returns-8 c = rw (c .before .match .keys8, position-kept _ _ messages.attributeInfo) (c .body-attribute-info .ensures)
 
 returns-9 : tie.Need-returns-9
 unfolding plainBody

@@ -1,10 +1,10 @@
 use borrow.Author.Tests.{lt-leb, le-leb, not-true, not-false}
 use Rattle.format.specs.Steps.{read-number, read-done, read-refuse}
-use Rattle.ohdr_info.specs.Info.{continuation}
-use Rattle.ohdr_info.specs.Facts.{before-end, ends-past, ends-inside}
+use Rattle.ohdr_entry.specs.Continuations.{continuation}
+use Rattle.ohdr_entry.specs.Facts.{before-end, ends-past, ends-inside}
 use borrow.Author.Needs.{needs}
-use Rattle.ohdr_info.proofs.message_continuation.Statement.{statement}
-use Rattle.ohdr_info.proofs.message_continuation.Tie as tie
+use Rattle.ohdr_entry.proofs.message_continuation.Statement.{statement}
+use Rattle.ohdr_entry.proofs.message_continuation.Tie as tie
 
 varint-requires : tie.Need-varint-requires
 varint-requires c κs = search needs
