@@ -15,10 +15,10 @@ use Rattle.format.specs.Format.{pick, nothing, Stands}
 use Rattle.format.specs.Standing.{stands-check}
 use Rattle.parser.specs.declared.State.{State}
 use Rattle.grammar.specs.Message.{Message, Held, message, continuation}
-use Rattle.grammar.specs.Grammar.{ochk, Item, Run, ends, goes, is-message, is-continuation, is-block}
+use Rattle.grammar.specs.Grammar.{ochk, blockEnd, Item, item, Run, ends, goes, is-message, is-continuation, is-block}
 use Rattle.ohdr_entry.specs.Entries.{prefixSize}
 use Rattle.ohdr_entry.specs.Entered.{continued}
-use Rattle.data_object_records.specs.Headers.{StandsEntry}
+use Rattle.ohdr_walk.specs.Sources.{sumMatches, source}
 use Rattle.standard.specs.Tie.{Stood, Every}
 use Rattle.standard.specs.Headers.{HeaderMessage, headerMessage, continuationSignature}
 use Rattle.standard.specs.Chunks.{Messages, gap, next, ContinuationBlock, block}
@@ -118,10 +118,10 @@ module _ (file : List ℕ) (s : State) (longest header-flags : ℕ) where
   abbrev Head : ℕ → ℕ → List Item → Type 0
   Head p q is = ((e : ℕ) → p + 4 ≤ e → ChunkDiffers p e) ⊎ EntryStands p q is
 
-  message-head : (p q : ℕ) (m : Message) → MessageEntry file s header-flags p q m → Head p q (record { from = p; upto = q; held = message m } ∷ [])
+  message-head : (p q : ℕ) (m : Message) → MessageEntry file s header-flags p q m → Head p q (item p q (message m) ∷ [])
   message-head p q m x = by-le (x .fields-end) (m .body + m .size) (λ l. inr (whole l)) (λ l. inl (λ e d. message-past-its-size d q m x l))
     where
-      whole : x .fields-end ≤ m .body + m .size → EntryStands p q (record { from = p; upto = q; held = message m } ∷ [])
+      whole : x .fields-end ≤ m .body + m .size → EntryStands p q (item p q (message m) ∷ [])
       whole l =
           let y = x .entry-is in
           record {
@@ -132,11 +132,11 @@ module _ (file : List ℕ) (s : State) (longest header-flags : ℕ) where
             before = λ e xs c. next (y .within l) (λ d. x .no-continuation (y .header-message-type ∙ d)) c;
           }
 
-  continuation-head : (p q o l : ℕ) (is : List Item) → ContinuationEntry file s header-flags p q o l → BlockDiffers o l ⊎ BlockIs o l is → Head p q (record { from = p; upto = q; held = continuation o l } ∷ is)
+  continuation-head : (p q o l : ℕ) (is : List Item) → ContinuationEntry file s header-flags p q o l → BlockDiffers o l ⊎ BlockIs o l is → Head p q (item p q (continuation o l) ∷ is)
   continuation-head p q o l is x (inl d) = inl (λ e k. in-block k q o l x d)
   continuation-head p q o l is x (inr b) = by-le (x .fields-end) (x .at + x .size) (λ h. inr (whole h)) (λ h. inl (λ e d. continuation-past-its-size d q o l x h))
     where
-      whole : x .fields-end ≤ x .at + x .size → EntryStands p q (record { from = p; upto = q; held = continuation o l } ∷ is)
+      whole : x .fields-end ≤ x .at + x .size → EntryStands p q (item p q (continuation o l) ∷ is)
       whole h =
           let y = x .entry-is in
           let c = x .fields-stand in
@@ -181,10 +181,15 @@ module _ (file : List ℕ) (s : State) (longest header-flags : ℕ) where
   unfolding ochk
   signature-end p q h = sym (stands-check file (eqb (le file p 4) 0x4B48434F) 20 nothing (p + 4) q tt (h .1) .1 .0)
 
+  -- what closes a block ends in the file
+  block-inside : (offset w q m : ℕ) → Stands file (blockEnd (sumMatches file) offset w q) q m tt → w ≤ length file
+  unfolding blockEnd
+  block-inside offset w q m h = omega (arith, h .0)
+
   -- a block
   block-of : (offset size start q : ℕ) (is : List Item) → Stands file ochk offset start tt
       → (start ≤ offset + size - 4 → ChunkDiffers start (offset + size - 4) ⊎ ChunkIs start (offset + size - 4) q is)
-      → (q < offset + size → offset + size ≤ length file) → 8 ≤ size → BlockDiffers offset size ⊎ BlockIs offset size is
+      → offset + size ≤ length file → 8 ≤ size → BlockDiffers offset size ⊎ BlockIs offset size is
   block-of offset size start q is h j t l =
       let e = signature-end offset start h in
       go (block-signature-tied .ties file offset start tt h) (j (omega arith))
@@ -192,7 +197,7 @@ module _ (file : List ℕ) (s : State) (longest header-flags : ℕ) where
       go : Stood {A = Unit {0}} (λ _ _. Unit {0}) continuationSignature file offset start tt → ChunkDiffers start (offset + size - 4) ⊎ ChunkIs start (offset + size - 4) q is
           → BlockDiffers offset size ⊎ BlockIs offset size is
       go y (inl d) = inl (in-chunk start (y .value) (y .stands) d)
-      go y (inr r) = inr (record { messages = r .messages; stands = block start (y .value) (y .stands) (r .chunk) (t (omega (arith, r .inside))); same = r .same })
+      go y (inr r) = inr (record { messages = r .messages; stands = block start (y .value) (y .stands) (r .chunk) t; same = r .same })
 
   forget : (o l : ℕ) (is : List Item) → BlockDiffers o l ⊎ BlockIs o l is → BlockDiffers o l ⊎ ((xs : List HeaderMessage) × BlockAt o l xs)
   forget o l is (inl d) = inl d
@@ -203,7 +208,7 @@ module _ (file : List ℕ) (s : State) (longest header-flags : ℕ) where
     message-is p q m x = record { in-entry = x; body-of = body-is file s longest enough (m .type) (m .body) (x .fields-end) (m .kept) (x .fields-stand) }
 
     -- a run: its chunk, and all that stands in and under it
-    pub run-is : {level p e q : ℕ} {is : List Item} → Run file (prefixSize header-flags) (StandsEntry file s header-flags) level p e q is → (p ≤ e → ChunkDiffers p e ⊎ ChunkIs p e q is) × Every ItemIs is
+    pub run-is : {level p e q : ℕ} {is : List Item} → Run (source file s header-flags) level p e q is → (p ≤ e → ChunkDiffers p e ⊎ ChunkIs p e q is) × Every ItemIs is
     run-is r = elim r as (λ level p e q is y. (p ≤ e → ChunkDiffers p e ⊎ ChunkIs p e q is) × Every ItemIs is) (λ level p q is y. Head p q is × Every ItemIs is) (λ level o l is y. (8 ≤ l → BlockDiffers o l ⊎ BlockIs o l is) × Every ItemIs is) [
       | ends {p = p} {e = e} h ↦ (λ i. at-end p e h i, tt)
       | goes {p = p} {e = e} {m = m} {q = q} {xs = xs} {ys = ys} h (a → i) (r → j) ↦ (λ l. one-more p m e q xs ys (due p e h) (i .0) (j .0), every-append xs ys (i .1) (j .1))
@@ -212,5 +217,5 @@ module _ (file : List ℕ) (s : State) (longest header-flags : ℕ) where
           let x = continuation-entry file s header-flags p q o l h in
           let k = i .0 (continued file s header-flags p q o l h .least) in
           (continuation-head p q o l xs x k, ((x, forget o l xs k), i .1)))
-      | is-block {offset = o} {size = z} {start = a} {q = q} {xs = xs} h (r → j) t ↦ (λ l. block-of o z a q xs h (j .0) t l, j .1)
+      | is-block {offset = o} {size = z} {start = a} {q = q} {xs = xs} n h (r → j) t ↦ (λ l. block-of o z a q xs h (j .0) (block-inside o (o + z) q n t) l, j .1)
     ]

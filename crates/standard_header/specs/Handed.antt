@@ -6,11 +6,12 @@ use mathlib.Core.Path.{_≡_}
 use mathlib.Core.List.{List}
 use Rattle.parser.specs.declared.State.{State}
 use Rattle.grammar.specs.Grammar.{Item}
-use Rattle.grammar.specs.Table.{messagesOf}
+use Rattle.grammar.specs.Table.{messagesOf, rowsOf}
 use Rattle.grammar.specs.Each.{All}
-use Rattle.data_object_records.specs.declared.HeaderFields.{HeaderFields}
-use Rattle.data_object_records.specs.Headers.{Wins, stateFor}
-use Rattle.data_object_records.specs.HeaderLaws.{tableOf}
+use Rattle.row.specs.Clearing.{table}
+use Rattle.data_object_header.specs.declared.HeaderFields.{HeaderFields}
+use Rattle.data_object_header.specs.Headers.{stateFor}
+use Rattle.data_object_winners.specs.Wins.{Wins}
 use Rattle.data_object.specs.declared.Answer.the-variants as answers
 use Rattle.data_object.specs.declared.DataObject.{DataObject}
 use Rattle.data_object.specs.Decoded.{winsIn, Accepted, Decoded}
@@ -32,21 +33,21 @@ module _ (file : List ℕ) (offsets lengths end at n longest : ℕ) where
     pub header : HeaderIs file state longest at after fields items
     -- each row: type, flags, size and body position are fields of the header message that stands there, and name and part those of its body
     pub rows : All (RowIs file state longest (header .prefix .flags)) (messagesOf items)
-    pub table : t ≡ tableOf n items
+    pub table : t ≡ table n (rowsOf items)
     -- each record
     pub records : WinsAre file state longest (messagesOf items) wins
 
   -- of every accepted header
-  pub accepted-standard : 4095 ≤ longest → {after count : ℕ} {wins : Wins} {t : List ℕ} → Accepted file offsets lengths end at n after count wins t → Standard after wins t
+  pub accepted-standard : 4095 ≤ longest → {after count : ℕ} {r : DataObject} {t : List ℕ} → Accepted file offsets lengths end at n after count r t → Standard after (winsIn r) t
   accepted-standard enough a =
-      let h = reading-is file state longest enough (a .readable .within .reading) in
+      let h = reading-is file state longest enough (a .readable .reading) in
       record {
         items = a .items;
-        fields = a .readable .within .reading .fields;
+        fields = a .readable .reading .fields;
         header = h;
         rows = each-message file state longest (h .prefix .flags) (a .items) (h .entries);
         table = a .table;
-        records = rw (a .records) (reading-wins file state longest enough (a .readable .within .reading));
+        records = rw (a .records) (reading-wins file state longest enough (a .readable .reading));
       }
 
   -- in the words of the call's contract

@@ -1,18 +1,20 @@
 -- A header that has a reading is the specification's, message by message; or a listed difference applies. Assumes nothing.
-use Prim.Native.Nat.{ℕ, _+_, _≤_, max}
+use Prim.Native.Nat.{ℕ, _+_, _-_, _≤_, max}
 use mathlib.Core.Path.{_≡_}
 use mathlib.Core.Logic.{_⊎_, inl, inr}
 use mathlib.Core.List.{List, [], _∷_}
 use native.Mathlib.Omega.{arith}
 use lib.ListN.{length}
-use Rattle.format.specs.Format.{Stands}
+use Rattle.format.specs.Format.{nothing, Stands}
+use Rattle.format.specs.Standing.{stands-check}
 use Rattle.parser.specs.declared.State.{State}
 use Rattle.grammar.specs.Message.{Message, Held, message, continuation}
-use Rattle.grammar.specs.Grammar.{Item}
+use Rattle.grammar.specs.Grammar.{Item, headerEnd}
 use Rattle.grammar.specs.Table.{messageOf, messagesOf}
 use Rattle.grammar.specs.Each.{All}
-use Rattle.data_object_records.specs.declared.HeaderFields.{HeaderFields}
-use Rattle.data_object_records.specs.Headers.{HeaderReading}
+use Rattle.ohdr_walk.specs.Sources.{sumMatches}
+use Rattle.data_object_header.specs.declared.HeaderFields.{HeaderFields}
+use Rattle.data_object_header.specs.Headers.{HeaderReading}
 use Rattle.standard.specs.Tie.{Every}
 use Rattle.standard.specs.Headers.{ObjectHeaderPrefix, objectHeaderPrefix, HeaderMessage}
 use Rattle.standard.specs.Chunks.{ObjectHeader}
@@ -75,9 +77,17 @@ module _ (file : List ℕ) (s : State) (longest : ℕ) where
           let l : after ≡ start + x .size-of-chunk-0 + 4 = omega (arith, y .inside) in
           inr (record { messages = y .messages; header = record { prefix = x; start = start; prefix-stands = h; chunk = y .chunk; checksum = omega arith }; same = y .same; end = l })
 
+  -- what closes the header ends in the file, 4 bytes behind the chunk or behind the run
+  closing : (o e last next : ℕ) → Stands file (headerEnd (sumMatches file) o e last) last next tt → (next ≡ max last e + 4) × (next ≤ length file)
+  unfolding headerEnd
+  closing o e last next h =
+      let d = stands-check file (sumMatches file o e) 28 nothing (last + (e - last) + 4) next tt (h .1 .1) .1 .0 in
+      (omega (arith, d), omega (arith, d, h .1 .0))
+
   module _ (enough : 4095 ≤ longest) where
     pub reading-is : {at after : ℕ} {xs : List Item} (h : HeaderReading file s at after xs) → HeaderIs at after (h .fields) xs
     reading-is {at} {after} {xs} h =
         let y = header-tied .ties file at (h .start) (h .fields) (h .head) in
+        let c = closing at (h .start + h .fields .size) (h .rest .last) after (h .rest .close) in
         let r = run-is file s longest (h .fields .flags) enough (h .rest .run) in
-        header-of at (h .start) after (h .rest .last) xs (h .fields) (y .value) (y .stands) (y .related) (h .rest .close) (h .rest .inside) (r .0 (omega arith)) (r .1)
+        header-of at (h .start) after (h .rest .last) xs (h .fields) (y .value) (y .stands) (y .related) (c .0) (c .1) (r .0 (omega arith)) (r .1)
