@@ -164,8 +164,9 @@ module _ (file : List ℕ) (s : State) (longest header-flags : ℕ) where
     pub in-entry : MessageEntry file s header-flags p q m
     pub body-of : BodyIs file s longest (m .body) (in-entry .fields-end) (m .type) (m .kept)
 
-  -- EntriesAre own all: of the entries `all` of a reading those in a chunk itself are `own`, each a header message of the specification;
-  -- just after a continuation come the entries of its block, which is the specification's unless a difference applies in it, whatever does elsewhere.
+  -- EntriesAre own all: of the entries `all` those in a chunk itself are `own`; just after a continuation come the entries of its block, and
+  -- those in that chunk itself are `block-own`. Each entry is a header message of the specification. Each block is the specification's by itself
+  -- unless a difference applies in it; what applies in other chunks plays no part.
   pub data EntriesAre : List Item → List Item → Type 0 where
     none : EntriesAre [] []
     a-message : {p q : ℕ} {m : Message} {own all : List Item} → MessageIs p q m → EntriesAre own all → EntriesAre (item p q (message m) ∷ own) (item p q (message m) ∷ all)

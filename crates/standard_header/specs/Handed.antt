@@ -28,7 +28,7 @@ module _ (file : List ℕ) (offsets lengths end at n longest : ℕ) where
 
   -- of an accepted header with the answer `Read after count`, and what is handed back of it
   pub record Standard (after count : ℕ) (r : DataObject) (t : List ℕ) : Type 0 where
-    -- the entries of the header and of its blocks: there are so many of them, and so many rows as there are messages among them
+    -- the entries of the header and of its blocks: `count` is their number, and there are as many rows as messages among them
     pub items : List Item
     pub entry-count : count ≡ length items
     pub row-count : r .rows ≡ messages items
