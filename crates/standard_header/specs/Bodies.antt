@@ -5,10 +5,13 @@ use mathlib.Core.Path.{_≡_, refl}
 use mathlib.Core.Logic.{_⊎_}
 use mathlib.Core.Bool.{Bool, true, false}
 use mathlib.Core.List.{List, [], _∷_}
+use native.Mathlib.Omega.{arith}
 use lib.Dec.{eqb}
 use borrow.Author.Tests.{eqb-true, eqb-false}
 use Rattle.format.specs.Format.{Format, done, bind, pick, Stands}
 use Rattle.format.specs.Standing.{stands-bind}
+use Rattle.records.specs.declared.OptionPart.{OptionPart}
+use Rattle.records.specs.declared.OptionPart.the-variants as parts
 use Rattle.records.specs.declared.Part.{Part}
 use Rattle.records.specs.declared.DataSpace.{DataSpace}
 use Rattle.records.specs.declared.LinkInfo.{LinkInfo}
@@ -28,6 +31,7 @@ use Rattle.ohdr_entry.specs.Entries.{body, plainBody, layoutBody, attributeBody
 use Rattle.standard.specs.Tie.{Stood, Every}
 use Rattle.standard.specs.Dataspaces.{dataspaceMessage}
 use Rattle.standard.specs.Datatypes.{datatypeMessage}
+use Rattle.standard.specs.Attributes as standard
 use Rattle.standard.specs.Attributes.{attributeMessage}
 use Rattle.standard.specs.Infos.{linkInfoMessage, groupInfoMessage, attributeInfoMessage}
 use Rattle.standard.specs.Storage.{fillValueOld, fillValueMessage, dataLayout3, filterPipelineMessage}
@@ -40,8 +44,10 @@ use Rattle.standard_datatype.specs.Differences.{TypeDiffers}
 use Rattle.standard_datatype.specs.Same.{SameType, HeaderStood}
 use Rattle.standard_datatype.specs.Ties.{datatype-tied, header-fields-tied}
 use Rattle.standard_attribute.specs.Differences.{AttributeDiffers}
-use Rattle.standard_attribute.specs.Same.{SameAttribute, NameStood}
+use Rattle.standard_attribute.specs.Same.{Less, SameAttribute, NameStood}
+use Rattle.standard_attribute.specs.TextValues.{TextValue, dataOf}
 use Rattle.standard_attribute.specs.Ties.{attribute-tied, name-tied}
+use Rattle.standard_attribute.specs.Values.{value-is-read}
 
 -- the types whose messages are read in place; 16 is the continuation
 abbrev pub readTypes : List ℕ
@@ -73,6 +79,13 @@ module _ (file : List ℕ) (s : State) where
   pub attribute-info-at : (b q : ℕ) (a : AttributeInfo) → Stands file (attributeInfo s) b q a → AttributeInfoAt b q a
   attribute-info-at b q a h = attribute-info-tied s .ties file b q a h
 
+  -- where the specification's attribute stands with a text, and no listed difference applies, the part is the bytes of its data field, less the
+  -- zeros at their end; whatever bounds its format has
+  abbrev pub TextAt : ℕ → ℕ → OptionPart → Type 0
+  TextAt b q part =
+      (longest levels upto : ℕ) (x : standard.Attribute) → Stands file (attributeMessage longest levels (s .«size_of_lengths»)) b upto x → TextValue (s .«size_of_lengths») x
+      → (q ≡ upto) × ((text : Part) × (part ≡ parts.Some text) × Less file text (dataOf x))
+
 module _ (file : List ℕ) where
   abbrev pub GroupInfoAt : ℕ → ℕ → GroupInfo → Type 0
   GroupInfoAt b q g = Stood SameGroupInfo groupInfoMessage file b q g
@@ -103,6 +116,7 @@ module _ (file : List ℕ) (s : State) (longest : ℕ) where
     -- the name is the specification's whatever follows it
     pub name : NameStood file b (a .name)
     pub whole : AttributeDiffers file s longest b ⊎ Stood (SameAttribute file) (attributeMessage longest typeLevels (s .«size_of_lengths»)) file b q a
+    pub text : TextAt file s b q (a .value)
 
   -- BodyIs b q type kept: the message of this type stands from b to q, and what is kept of it is its record.
   -- Of the types that are not read no field is read and nothing is kept (entry 15).
@@ -118,6 +132,20 @@ module _ (file : List ℕ) (s : State) (longest : ℕ) where
     attribute-message : {q : ℕ} (a : Attribute) → AttributeAt b q a → BodyIs b q 12 (messages.attribute a)
     attribute-info : {q : ℕ} (a : AttributeInfo) → AttributeInfoAt file s b q a → BodyIs b q 21 (messages.attributeInfo a)
     not-read : {type : ℕ} → Every (λ n. type ≡ n → ⊥) readTypes → BodyIs b b type messages.nothing
+
+  -- of type 12 the part that a row has is such a text
+  pub text-part : {b q type : ℕ} {k : Kept} → BodyIs b q type k → type ≡ 12 → TextAt file s b q (messages.partOf k)
+  text-part (dataspace d h) e = absurd (omega arith)
+  text-part (link-info l h) e = absurd (omega arith)
+  text-part (datatype t h) e = absurd (omega arith)
+  text-part (fill-value-old h) e = absurd (omega arith)
+  text-part (fill-value h) e = absurd (omega arith)
+  text-part (data-layout p h) e = absurd (omega arith)
+  text-part (group-info g h) e = absurd (omega arith)
+  text-part (filter-pipeline h) e = absurd (omega arith)
+  text-part (attribute-message a h) e = h .text
+  text-part (attribute-info a h) e = absurd (omega arith)
+  text-part (not-read h) e = absurd (h .1 .1 .1 .1 .1 .1 .1 .1 .0 e)
 
   module _ (enough : 4095 ≤ longest) where
     -- by whether the type is n
@@ -154,5 +182,5 @@ module _ (file : List ℕ) (s : State) (longest : ℕ) where
     unfolding body layoutBody attributeBody
     body-is type p q k h =
         by-type type 8 p q k _ _ h (one (dataLayout s) messages.dataLayout 8 type p q k (λ m a i. data-layout a (layout-at file s p m a i))) (λ e8 h.
-        by-type type 12 p q k _ _ h (one (attribute s) messages.attribute 12 type p q k (λ m a i. attribute-message a (record { name = name-tied file s p m a i; whole = attribute-tied file s longest enough p m a i }))) (λ e12 h.
+        by-type type 12 p q k _ _ h (one (attribute s) messages.attribute 12 type p q k (λ m a i. attribute-message a (record { name = name-tied file s p m a i; whole = attribute-tied file s longest enough p m a i; text = λ longest levels upto x h r. value-is-read file s longest levels p upto m x a h r i }))) (λ e12 h.
         plain-is type p q k e8 e12 h))

@@ -1,7 +1,9 @@
 pub mod Prefixes
 pub mod Bodies
+pub mod Same
 pub mod Entries
 pub mod Chunks
+pub mod Whole
 pub mod Readings
 pub mod Winning
 pub mod Handed

@@ -8,12 +8,12 @@ use lib.Bits.{bitAnd}
 use lib.Dec.{eqb, leb}
 use borrow.Author.Tests.{not-true}
 use Rattle.format.specs.Bits.{bit}
-use Rattle.format.specs.Format.{Format, number, skip, bind, pick, nothing}
-use Rattle.grammar.specs.Grammar.{signature, ochk}
+use Rattle.format.specs.Format.{Format, number, skip, bind, pick, nothing, signature}
+use Rattle.grammar.specs.Grammar.{ochk}
 use Rattle.ohdr_entry.specs.declared.Prefix.{Prefix}
 use Rattle.ohdr_entry.specs.Entries.{creationOrder, prefix}
-use Rattle.data_object_records.specs.declared.HeaderFields.{HeaderFields}
-use Rattle.data_object_records.specs.Headers.{ohdr, headerFields}
+use Rattle.data_object_header.specs.declared.HeaderFields.{HeaderFields}
+use Rattle.data_object_header.specs.Headers.{ohdr, headerFields}
 use Rattle.standard.specs.Fields.{Optional, only, optional}
 use Rattle.standard.specs.Tie.{Tied, tied-done, tied-number, tied-check, tied-only, tied-pick, tied-bind, tied-bind-check, tied-split, tied-skip-none, tied-optional, tied-optional-none}
 use Rattle.standard.specs.Headers.{ObjectHeaderPrefix, objectHeaderPrefix, MessagePrefix, messagePrefix, continuationSignature}

@@ -1,83 +1,128 @@
 -- A header that has a reading is the specification's, message by message; or a listed difference applies. Assumes nothing.
-use Prim.Native.Nat.{ℕ, _+_, _≤_, max}
-use mathlib.Core.Path.{_≡_}
+use Prim.Native.Nat.{ℕ, _+_, _-_, _≤_, max}
+use mathlib.Core.Path.{_≡_, sym, subst}
 use mathlib.Core.Logic.{_⊎_, inl, inr}
-use mathlib.Core.List.{List, [], _∷_}
+use mathlib.Core.List.{List}
 use native.Mathlib.Omega.{arith}
 use lib.ListN.{length}
-use Rattle.format.specs.Format.{Stands}
+use Rattle.format.specs.Format.{nothing, Stands}
+use Rattle.format.specs.Standing.{stands-check}
 use Rattle.parser.specs.declared.State.{State}
-use Rattle.grammar.specs.Message.{Message, Held, message, continuation}
-use Rattle.grammar.specs.Grammar.{Item}
-use Rattle.grammar.specs.Table.{messageOf, messagesOf}
-use Rattle.grammar.specs.Each.{All}
-use Rattle.data_object_records.specs.declared.HeaderFields.{HeaderFields}
-use Rattle.data_object_records.specs.Headers.{HeaderReading}
-use Rattle.standard.specs.Tie.{Every}
+use Rattle.grammar.specs.Message.{Message, rowOf}
+use Rattle.grammar.specs.Grammar.{Item, headerEnd}
+use Rattle.grammar.specs.Table.{messagesOf, messages}
+use Rattle.grammar.specs.TableLaws.{messagesOf-append}
+use Rattle.grammar.specs.Each.{All, all-append}
+use Rattle.ohdr_walk.specs.Sources.{sumMatches}
+use Rattle.data_object_header.specs.declared.HeaderFields.{HeaderFields}
+use Rattle.data_object_header.specs.Headers.{HeaderReading}
 use Rattle.standard.specs.Headers.{ObjectHeaderPrefix, objectHeaderPrefix, HeaderMessage}
 use Rattle.standard.specs.Chunks.{ObjectHeader}
 use Rattle.standard_header.specs.Prefixes.{SameHeader, header-tied}
-use Rattle.standard_header.specs.Chunks.{SameEntries, ChunkDiffers, ChunkIs, ItemIs, HeldIs, MessageIs, run-is}
+use Rattle.standard_header.specs.Same.{OneByOne, as-many, SameMessage, noContinuations, SameHeld, SameEntries, same-messages}
+use Rattle.standard_header.specs.Bodies.{TextAt, text-part}
+use Rattle.standard_header.specs.Chunks.{ChunkDiffers, ChunkIs, ReadUpTo, MessageIs, EntriesAre, none, a-message, a-continuation, run-is}
+use Rattle.standard_header.specs.Whole.{InBlocks, WholeChunk, whole-chunk}
 
-module _ (file : List ℕ) (s : State) (longest : ℕ) where
-  -- the header at a position as a whole: its messages, in its first chunk and in its blocks, are the entries, one by one; and where it ends
-  pub record WholeIs (at after : ℕ) (xs : List Item) : Type 0 where
+module _ (file : List ℕ) (s : State) where
+  -- the first chunk by itself, with the checksum of 4 bytes behind its end e, where the header ends
+  pub record FirstChunkIs (header-flags start e after : ℕ) (own : List Item) : Type 0 where
+    pub chunk : ChunkIs file s header-flags start e own
+    pub checksum : e + 4 ≤ length file
+    pub end : after ≡ e + 4
+
+  -- The header at a position as a whole: what its messages are, in its first chunk and in its blocks; how many there are; and where it ends.
+  pub record WholeIs (at after count rows : ℕ) (xs : List Item) : Type 0 where
     pub messages : List HeaderMessage
     pub header : ObjectHeader file (s .«size_of_offsets») (s .«size_of_lengths») at messages
-    pub same : SameEntries xs messages
+    -- the entries are its messages, one by one
+    pub entries : SameEntries file s xs messages
+    pub entry-count : count ≡ length messages
+    -- the messages that have rows are those of them that are no continuations, one by one
+    pub with-rows : OneByOne SameMessage (messagesOf xs) (noContinuations messages)
+    pub row-count : rows ≡ length (noContinuations messages)
     pub end : after ≡ header .start + header .prefix .size-of-chunk-0 + 4
 
-  -- A header at a position, up to the next, with its fields, its entries and those of its blocks in the reading's order.
-  pub record HeaderIs (at after : ℕ) (fields : HeaderFields) (xs : List Item) : Type 0 where
+module _ (file : List ℕ) (s : State) (longest : ℕ) where
+  -- A header at a position, up to the next, with its fields, its entries and those of its blocks in the reading's order, and numbers of entries and rows.
+  pub record HeaderIs (at after count rows : ℕ) (fields : HeaderFields) (xs : List Item) : Type 0 where
     pub prefix : ObjectHeaderPrefix
     pub start : ℕ
     pub prefix-stands : Stands file objectHeaderPrefix at start prefix
     pub prefix-same : SameHeader fields prefix
+    -- its first chunk by itself, with the entries that are read there, unless a difference applies in it
+    pub own : List Item
+    pub first-chunk : ChunkDiffers file s (prefix .flags) start (start + prefix .size-of-chunk-0) ⊎ FirstChunkIs file s (prefix .flags) start (start + prefix .size-of-chunk-0) after own
+    -- each entry, and each block by itself
+    pub entries : EntriesAre file s longest (prefix .flags) own xs
     -- as a whole, unless a difference applies in its first chunk or in a block
-    pub whole : ChunkDiffers file s longest (prefix .flags) start (start + prefix .size-of-chunk-0) ⊎ WholeIs at after xs
-    -- each entry is the specification's header message
-    pub entries : Every (ItemIs file s longest (prefix .flags)) xs
+    pub whole : (ChunkDiffers file s (prefix .flags) start (start + prefix .size-of-chunk-0) ⊎ InBlocks file s (prefix .flags) xs) ⊎ WholeIs file s at after count rows xs
 
   -- each message, by itself
   pub record RowIs (header-flags : ℕ) (m : Message) : Type 0 where
     pub from : ℕ
     pub upto : ℕ
     pub is : MessageIs file s longest header-flags from upto m
+    -- an attribute's row has the text that the specification's message has
+    pub text : m .type ≡ 12 → TextAt file s (m .body) (is .in-entry .fields-end) (rowOf m .part)
 
-  one-message : (header-flags p q : ℕ) (v : Held) (ms : List Message) → HeldIs file s longest header-flags p q v → All (RowIs header-flags) ms → All (RowIs header-flags) (messageOf v ms)
-  one-message header-flags p q (message m) ms h r = (record { from = p; upto = q; is = h }, r)
-  one-message header-flags p q (continuation o l) ms h r = r
+  pub each-message : {header-flags : ℕ} {own all : List Item} → EntriesAre file s longest header-flags own all → All (RowIs header-flags) (messagesOf all)
+  each-message {header-flags} h = elim h as (λ own all y. All (RowIs header-flags) (messagesOf all)) [
+    | none ↦ tt
+    | a-message {p = p} {q = q} x (r → f) ↦ (record { from = p; upto = q; is = x; text = text-part file s longest (x .body-of) }, f)
+    | a-continuation {all = all} {block-all = is} x b (r → g) (t → f) ↦
+        subst (All (RowIs header-flags)) (sym (messagesOf-append is all)) (all-append (RowIs header-flags) (messagesOf is) (messagesOf all) g f)
+  ]
 
-  pub each-message : (header-flags : ℕ) (xs : List Item) → Every (ItemIs file s longest header-flags) xs → All (RowIs header-flags) (messagesOf xs)
-  each-message header-flags [] e = tt
-  each-message header-flags (x ∷ xs) e = one-message header-flags (x .from) (x .upto) (x .held) (messagesOf xs) (e .0) (each-message header-flags xs (e .1))
+  -- as a whole, where the first chunk is the specification's
+  whole-of : (at start after : ℕ) (own xs : List Item) (x : ObjectHeaderPrefix) → Stands file objectHeaderPrefix at start x
+      → FirstChunkIs file s (x .flags) start (start + x .size-of-chunk-0) after own → EntriesAre file s longest (x .flags) own xs
+      → InBlocks file s (x .flags) xs ⊎ WholeIs file s at after (length xs) (messages xs) xs
+  whole-of at start after own xs x h c r = go (whole-chunk file s (x .flags) r start (start + x .size-of-chunk-0) (c .chunk .messages) (c .chunk .stand) (c .chunk .same))
+    where
+      go : InBlocks file s (x .flags) xs ⊎ WholeChunk file s (x .flags) start (start + x .size-of-chunk-0) xs → InBlocks file s (x .flags) xs ⊎ WholeIs file s at after (length xs) (messages xs) xs
+      go (inl d) = inl d
+      go (inr w) =
+          let r = same-messages file s xs (w .messages) (w .same) in
+          inr (record {
+            messages = w .messages;
+            header = record { prefix = x; start = start; prefix-stands = h; chunk = w .chunk; checksum = c .checksum };
+            entries = w .same;
+            entry-count = as-many (λ (i : Item) (y : HeaderMessage). SameHeld file s (i .held) y) xs (w .messages) (w .same);
+            with-rows = r;
+            row-count = as-many SameMessage (messagesOf xs) (noContinuations (w .messages)) r;
+            end = c .end;
+          })
 
   -- what is read, in the specification's words
-  header-of : (at start after last : ℕ) (xs : List Item) (f : HeaderFields) (x : ObjectHeaderPrefix) → Stands file objectHeaderPrefix at start x → SameHeader f x
-      → after ≡ max last (start + f .size) + 4 → after ≤ length file
-      → ChunkDiffers file s longest (f .flags) start (start + f .size) ⊎ ChunkIs file s longest (f .flags) start (start + f .size) last xs
-      → Every (ItemIs file s longest (f .flags)) xs → HeaderIs at after f xs
-  header-of at start after last xs f x h r e i c m =
-      record {
-        prefix = x;
-        start = start;
-        prefix-stands = h;
-        prefix-same = r;
-        whole = go (rw (r .flags, r .size-of-chunk-0) at c) (rw (r .size-of-chunk-0) at e);
-        entries = rw (r .flags) at m;
-      }
+  header-of : (at start after last : ℕ) (own xs : List Item) (f : HeaderFields) (x : ObjectHeaderPrefix) → Stands file objectHeaderPrefix at start x → SameHeader f x
+      → after ≡ max last (start + f .size) + 4 → after ≤ length file → ReadUpTo file s (f .flags) start (start + f .size) last own → EntriesAre file s longest (f .flags) own xs
+      → HeaderIs at after (length xs) (messages xs) f xs
+  header-of at start after last own xs f x h r e i c m = go (rw (r .size-of-chunk-0) at e) (rw (r .flags, r .size-of-chunk-0) at c) (rw (r .flags) at m)
     where
-      go : ChunkDiffers file s longest (x .flags) start (start + x .size-of-chunk-0) ⊎ ChunkIs file s longest (x .flags) start (start + x .size-of-chunk-0) last xs
-          → after ≡ max last (start + x .size-of-chunk-0) + 4
-          → ChunkDiffers file s longest (x .flags) start (start + x .size-of-chunk-0) ⊎ WholeIs at after xs
-      go (inl d) k = inl d
-      go (inr y) k =
-          let l : after ≡ start + x .size-of-chunk-0 + 4 = omega (arith, y .inside) in
-          inr (record { messages = y .messages; header = record { prefix = x; start = start; prefix-stands = h; chunk = y .chunk; checksum = omega arith }; same = y .same; end = l })
+      go : after ≡ max last (start + x .size-of-chunk-0) + 4 → ReadUpTo file s (x .flags) start (start + x .size-of-chunk-0) last own → EntriesAre file s longest (x .flags) own xs
+          → HeaderIs at after (length xs) (messages xs) f xs
+      go e (inl d) m = record { prefix = x; start = start; prefix-stands = h; prefix-same = r; own = own; first-chunk = inl d; entries = m; whole = inl (inl d) }
+      go e (inr y) m =
+          let c : FirstChunkIs file s (x .flags) start (start + x .size-of-chunk-0) after own = record { chunk = y .1; checksum = omega (arith, y .0); end = omega (arith, y .0) } in
+          record { prefix = x; start = start; prefix-stands = h; prefix-same = r; own = own; first-chunk = inr c; entries = m; whole = blocks (whole-of at start after own xs x h c m) }
+        where
+          blocks : InBlocks file s (x .flags) xs ⊎ WholeIs file s at after (length xs) (messages xs) xs
+              → (ChunkDiffers file s (x .flags) start (start + x .size-of-chunk-0) ⊎ InBlocks file s (x .flags) xs) ⊎ WholeIs file s at after (length xs) (messages xs) xs
+          blocks (inl d) = inl (inr d)
+          blocks (inr w) = inr w
+
+  -- what closes the header ends in the file, 4 bytes behind the chunk or behind the run
+  closing : (o e last next : ℕ) → Stands file (headerEnd (sumMatches file) o e last) last next tt → (next ≡ max last e + 4) × (next ≤ length file)
+  unfolding headerEnd
+  closing o e last next h =
+      let d = stands-check file (sumMatches file o e) 28 nothing (last + (e - last) + 4) next tt (h .1 .1) .1 .0 in
+      (omega (arith, d), omega (arith, d, h .1 .0))
 
   module _ (enough : 4095 ≤ longest) where
-    pub reading-is : {at after : ℕ} {xs : List Item} (h : HeaderReading file s at after xs) → HeaderIs at after (h .fields) xs
+    pub reading-is : {at after : ℕ} {xs : List Item} (h : HeaderReading file s at after xs) → HeaderIs at after (length xs) (messages xs) (h .fields) xs
     reading-is {at} {after} {xs} h =
         let y = header-tied .ties file at (h .start) (h .fields) (h .head) in
+        let c = closing at (h .start + h .fields .size) (h .rest .last) after (h .rest .close) in
         let r = run-is file s longest (h .fields .flags) enough (h .rest .run) in
-        header-of at (h .start) after (h .rest .last) xs (h .fields) (y .value) (y .stands) (y .related) (h .rest .close) (h .rest .inside) (r .0 (omega arith)) (r .1)
+        header-of at (h .start) after (h .rest .last) (r .own) xs (h .fields) (y .value) (y .stands) (y .related) (c .0) (c .1) (r .chunk (omega arith)) (r .entries)

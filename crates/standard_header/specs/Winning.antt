@@ -23,9 +23,10 @@ use Rattle.ohdr_datatype.specs.DataTypes.{dataType, typeLevels}
 use Rattle.ohdr_dataspace.specs.DataSpaces.{dataSpace}
 use Rattle.ohdr_entry.specs.Entries.{body, plainBody, layoutBody}
 use Rattle.ohdr_entry.specs.Entered.{Bodied}
-use Rattle.data_object_records.specs.Headers.{Wins, win, winsAfter, winsOf, defaults, HeaderReading}
-use Rattle.data_object_records.specs.Winners.{valueOr}
-use Rattle.data_object_records.specs.WinnerLaws.{typeOf, typed, Won, all-bodied, space-won, type-won, link-won, group-won, info-won, data-won}
+use Rattle.data_object_header.specs.Headers.{HeaderReading}
+use Rattle.data_object_winners.specs.Wins.{Wins, win, winsAfter, winsOf, defaults}
+use Rattle.data_object_winners.specs.Winners.{valueOr}
+use Rattle.data_object_winners.specs.WinnerLaws.{typeOf, typed, Won, all-bodied, space-won, type-won, link-won, group-won, info-won, data-won}
 use Rattle.standard_header.specs.Bodies.{SpaceAt, space-at, LinkInfoAt, link-info-at, TypeAt, type-at, LayoutAt, layout-at, GroupInfoAt, group-info-at, AttributeInfoAt, attribute-info-at}
 
 -- no message of a type
