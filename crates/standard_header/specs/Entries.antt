@@ -13,7 +13,7 @@ use Rattle.format.specs.Format.{pick, Stands}
 use Rattle.format.specs.Standing.{stands-bind, bind-stands}
 use Rattle.parser.specs.declared.State.{State}
 use Rattle.grammar.specs.Message.{Message, Held, message, continuation}
-use Rattle.ohdr_info.specs.Info as info
+use Rattle.ohdr_entry.specs.Continuations as info
 use Rattle.ohdr_entry.specs.declared.Prefix.{Prefix}
 use Rattle.ohdr_entry.specs.Entries.{prefix, body, messageHeld, continuationHeld, closed, entry}
 use Rattle.standard.specs.Fields.{Bytes, raw}

@@ -11,7 +11,7 @@ use Rattle.grammar.specs.Table.{messagesOf, messages, rowsOf}
 use Rattle.grammar.specs.Each.{All}
 use Rattle.row.specs.Clearing.{table}
 use Rattle.data_object_header.specs.declared.HeaderFields.{HeaderFields}
-use Rattle.data_object_header.specs.Headers.{stateFor}
+use Rattle.parser.specs.States.{stateFor}
 use Rattle.data_object.specs.declared.Answer.{Answer}
 use Rattle.data_object.specs.declared.Answer.the-variants as answers
 use Rattle.data_object.specs.declared.DataObject.{DataObject}
