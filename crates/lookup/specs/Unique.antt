@@ -3,39 +3,10 @@ use Prim.Native.Nat.{ℕ, _<_}
 use mathlib.Core.Path.{_≡_, refl, sym, _∙_, ap}
 use mathlib.Core.List.{List}
 use native.Mathlib.Omega.{arith}
-use Rattle.records.specs.Refusals.{refusalNumber}
-use Rattle.records.specs.declared.Refusal.{Refusal}
-use Rattle.records.specs.declared.Refusal.the-variants as refusals
+use Rattle.records.specs.RefusalLaws.{refusal-unique}
 use Rattle.lookup.specs.declared.LookupAnswer.{LookupAnswer}
 use Rattle.lookup.specs.declared.LookupAnswer.the-variants as answers
 use Rattle.lookup.specs.Named.{Looked}
-
--- refusal 24 is the table's
-only-table : (r : Refusal) → refusalNumber r ≡ 24 → r ≡ refusals.Table
-only-table refusals.Width e = absurd (omega arith)
-only-table refusals.FileSize e = absurd (omega arith)
-only-table refusals.Short e = absurd (omega arith)
-only-table refusals.Signature e = absurd (omega arith)
-only-table refusals.Version e = absurd (omega arith)
-only-table refusals.HeaderFlags e = absurd (omega arith)
-only-table refusals.ChunkSize e = absurd (omega arith)
-only-table refusals.EntryFlags e = absurd (omega arith)
-only-table refusals.DataSpace e = absurd (omega arith)
-only-table refusals.LinkInfo e = absurd (omega arith)
-only-table refusals.DataType e = absurd (omega arith)
-only-table refusals.DataFill e = absurd (omega arith)
-only-table refusals.DataLayout e = absurd (omega arith)
-only-table refusals.Chunked e = absurd (omega arith)
-only-table refusals.GroupInfo e = absurd (omega arith)
-only-table refusals.FilterPipeline e = absurd (omega arith)
-only-table refusals.Attribute e = absurd (omega arith)
-only-table refusals.AttributeInfo e = absurd (omega arith)
-only-table refusals.ContinuationRange e = absurd (omega arith)
-only-table refusals.ContinuationSignature e = absurd (omega arith)
-only-table refusals.BlockLevel e = absurd (omega arith)
-only-table refusals.TypeLevel e = absurd (omega arith)
-only-table refusals.Entries e = absurd (omega arith)
-only-table refusals.Table e = refl
 
 pub looked-unique : (file table : List ℕ) (rows : ℕ) (name : List ℕ) (a b : LookupAnswer) → Looked file table rows name a → Looked file table rows name b → a ≡ b
 looked-unique file table rows name (answers.At i) (answers.At j) h g =
@@ -49,4 +20,4 @@ looked-unique file table rows name answers.Nothing answers.Nothing h g = refl
 looked-unique file table rows name answers.Nothing (answers.Refused r) h g = absurd (omega (arith, h .0, g .1))
 looked-unique file table rows name (answers.Refused r) (answers.At i) h g = absurd (omega (arith, g .0, h .1))
 looked-unique file table rows name (answers.Refused r) answers.Nothing h g = absurd (omega (arith, g .0, h .1))
-looked-unique file table rows name (answers.Refused r) (answers.Refused q) h g = ap answers.Refused (only-table r (h .0) ∙ sym (only-table q (g .0)))
+looked-unique file table rows name (answers.Refused r) (answers.Refused q) h g = ap answers.Refused (refusal-unique r q (h .0 ∙ sym (g .0)))
