@@ -34,7 +34,7 @@ length-putAll t i [] = refl
 length-putAll t i (m ∷ ms) = length-putAll (put t i m) (suc i) ms ∙ length-put t i m
 
 -- words set one list after another
-sets-append : (vs ws t : List ℕ) (i : ℕ) → sets t i (vs ++ ws) ≡ sets (sets t i vs) (i + length vs) ws
+pub sets-append : (vs ws t : List ℕ) (i : ℕ) → sets t i (vs ++ ws) ≡ sets (sets t i vs) (i + length vs) ws
 sets-append [] ws t i = let e : i + 0 ≡ i = omega arith in rw e
 sets-append (v ∷ vs) ws t i = let e : i + suc (length vs) ≡ suc i + length vs = omega arith in rw e (sets-append vs ws (set t i v) (suc i))
 

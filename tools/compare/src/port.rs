@@ -12,18 +12,21 @@ const TABLE_TOO_SMALL: u64 = 24;
 
 /// The words of dowringaf.h.
 #[repr(C)]
+#[derive(Default)]
 struct Optional {
     present: u64,
     value: u64,
 }
 
 #[repr(C)]
+#[derive(Default)]
 struct Sizes {
     count: u64,
     sizes: [u64; 4],
 }
 
 #[repr(C)]
+#[derive(Default)]
 struct DataSpace {
     dimensionality: u64,
     flags: u64,
@@ -33,6 +36,7 @@ struct DataSpace {
 }
 
 #[repr(C)]
+#[derive(Default)]
 struct DataType {
     class_and_version: u64,
     class_bit_field: u64,
@@ -43,6 +47,7 @@ struct DataType {
 }
 
 #[repr(C)]
+#[derive(Default)]
 struct LinkInfo {
     flags: u64,
     maximum_creation_index: Optional,
@@ -52,6 +57,7 @@ struct LinkInfo {
 }
 
 #[repr(C)]
+#[derive(Default)]
 struct GroupInfo {
     flags: u64,
     maximum_compact_value: Optional,
@@ -61,6 +67,7 @@ struct GroupInfo {
 }
 
 #[repr(C)]
+#[derive(Default)]
 struct AttributeInfo {
     flags: u64,
     maximum_creation_index: u64,
@@ -70,12 +77,14 @@ struct AttributeInfo {
 }
 
 #[repr(C)]
+#[derive(Default)]
 struct Part {
     position: u64,
     length: u64,
 }
 
 #[repr(C)]
+#[derive(Default)]
 struct Object {
     refused: u64,
     next: u64,
@@ -99,7 +108,8 @@ unsafe extern "C" {
         end_of_file: u64,
         table: *mut u64,
         table_words: usize,
-    ) -> Object;
+        object: *mut Object,
+    );
 }
 
 pub enum Outcome {
@@ -108,9 +118,10 @@ pub enum Outcome {
     Refused(u64),
 }
 
-/// The port with the table that it is lent.
+/// The port with the table and the object that it is lent.
 pub struct Port {
     table: Vec<u64>,
+    object: Object,
 }
 
 impl Default for Port {
@@ -124,18 +135,21 @@ impl Port {
     pub fn lending(rows: usize) -> Port {
         Port {
             table: vec![0; rows * ROW_WORDS],
+            object: Object::default(),
         }
     }
 
-    /// The port's answer, first with few rows, and where those do not do with all. The table comes
-    /// as the call before left it, and its words after the last row must be zero.
+    /// The port's answer, first with few rows, and where those do not do with all. The table and the
+    /// object come as the call before left them, and the table's words after the last row must be
+    /// zero.
     pub fn answer(&mut self, input: &Input) -> Outcome {
         let mut words = self.table.len().min(FEW_ROWS * ROW_WORDS);
-        let mut object = call(input, &mut self.table[..words]);
-        if object.refused == TABLE_TOO_SMALL {
+        self.call(input, words);
+        if self.object.refused == TABLE_TOO_SMALL {
             words = self.table.len();
-            object = call(input, &mut self.table);
+            self.call(input, words);
         }
+        let object = &self.object;
         let unused = &self.table[object.rows as usize * ROW_WORDS..words];
         assert!(unused.iter().all(|word| *word == 0), "unused rows are zero");
         if object.refused != 0 {
@@ -147,25 +161,28 @@ impl Port {
     /// The call alone, over the whole table: the position after the header and the rows filled, or
     /// nothing where it refuses.
     pub fn data_object(&mut self, input: &Input) -> Option<(u64, u64)> {
-        let object = call(input, &mut self.table);
-        (object.refused == 0).then_some((object.next, object.rows))
+        self.call(input, self.table.len());
+        (self.object.refused == 0).then_some((self.object.next, self.object.rows))
     }
-}
 
-fn call(input: &Input, table: &mut [u64]) -> Object {
-    // The pointers come from slices with their lengths, the table is borrowed alone, and the
-    // function keeps neither.
-    unsafe {
-        dowringaf_data_object(
-            input.file.as_ptr(),
-            input.file.len(),
-            input.position,
-            input.offset_width.into(),
-            input.length_width.into(),
-            input.end_of_file,
-            table.as_mut_ptr(),
-            table.len(),
-        )
+    /// The call, over the first words of the table.
+    fn call(&mut self, input: &Input, words: usize) {
+        let table = &mut self.table[..words];
+        // The pointers come from slices with their lengths, the table and the object are borrowed
+        // alone, and the function keeps none of them.
+        unsafe {
+            dowringaf_data_object(
+                input.file.as_ptr(),
+                input.file.len(),
+                input.position,
+                input.offset_width.into(),
+                input.length_width.into(),
+                input.end_of_file,
+                table.as_mut_ptr(),
+                table.len(),
+                &mut self.object,
+            );
+        }
     }
 }
 
