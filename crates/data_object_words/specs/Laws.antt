@@ -1,9 +1,9 @@
 -- Words that are put piece after piece, each at its place, are the words of the whole. Assumes nothing.
 use Prim.Native.Nat.{ℕ, _+_}
 use mathlib.Core.Path.{_≡_, refl, ap, _∙_}
-use mathlib.Core.List.{List, _++_, append-nil}
+use mathlib.Core.List.{List, _∷_, _++_, append-nil}
 use native.Mathlib.Omega.{arith}
-use lib.ListN.{length, set, length-append, drop-of-length-le}
+use lib.ListN.{length, getD, set, length-append, drop-of-length-le}
 use lib.Seq.{sets, sets-eq}
 use Rattle.records.specs.declared.DataFormat.the-variants as formats
 use Rattle.records.specs.declared.OptionDataFormat.{OptionDataFormat}
@@ -25,6 +25,13 @@ length-format (optionFormats.Some (formats.Float a b c d e f g)) = refl
 
 pub length-words : (o : DataObject) → length (wordsOf o) ≡ 54
 length-words o = rw (length-append (answerWords (o .answer)), length-answer, length-append (formatWords (o .dt .«data_fmt»)), length-format)
+
+pub rows-word : (o : DataObject) → getD (wordsOf o) 3 0 ≡ o .rows
+rows-word o = fourth (o .answer) (o .rows) _
+  where
+    fourth : (a : Answer) (n : ℕ) (ws : List ℕ) → getD (answerWords a ++ (n ∷ ws)) 3 0 ≡ n
+    fourth (answers.Read next entries) n ws = refl
+    fourth (answers.Refused r) n ws = refl
 
 module _ (o : DataObject) (t : List ℕ) where
   -- each piece at its place in t

@@ -1,6 +1,6 @@
 //! The port behind one function, through the archive that dowringaf.h describes.
 
-use crate::answer::{self, Dimensions, Format, Header, Row};
+use crate::answer::{Header, Records, Row};
 use crate::input::Input;
 
 const ROW_WORDS: usize = 10;
@@ -13,89 +13,14 @@ const TABLE_TOO_SMALL: u64 = 24;
 /// The words of dowringaf.h.
 #[repr(C)]
 #[derive(Default)]
-struct Optional {
-    present: u64,
-    value: u64,
-}
-
-#[repr(C)]
-#[derive(Default)]
-struct Sizes {
-    count: u64,
-    sizes: [u64; 4],
-}
-
-#[repr(C)]
-#[derive(Default)]
-struct DataSpace {
-    dimensionality: u64,
-    flags: u64,
-    kind: Optional,
-    size: Sizes,
-    maximum_size: Sizes,
-}
-
-#[repr(C)]
-#[derive(Default)]
-struct DataType {
-    class_and_version: u64,
-    class_bit_field: u64,
-    size: u64,
-    list_size: Optional,
-    format_kind: u64,
-    format: [u64; 7],
-}
-
-#[repr(C)]
-#[derive(Default)]
-struct LinkInfo {
-    flags: u64,
-    maximum_creation_index: Optional,
-    fractal_heap_address: u64,
-    address_btree_index: u64,
-    address_btree_order: Optional,
-}
-
-#[repr(C)]
-#[derive(Default)]
-struct GroupInfo {
-    flags: u64,
-    maximum_compact_value: Optional,
-    minimum_dense_value: Optional,
-    number_of_entries: Optional,
-    length_of_entries: Optional,
-}
-
-#[repr(C)]
-#[derive(Default)]
-struct AttributeInfo {
-    flags: u64,
-    maximum_creation_index: u64,
-    fractal_heap_address: u64,
-    attribute_name_btree: u64,
-    attribute_creation_order_btree: u64,
-}
-
-#[repr(C)]
-#[derive(Default)]
-struct Part {
-    position: u64,
-    length: u64,
-}
-
-#[repr(C)]
-#[derive(Default)]
 struct Object {
     refused: u64,
     next: u64,
     entries: u64,
     rows: u64,
-    data_space: DataSpace,
-    data_type: DataType,
-    link_info: LinkInfo,
-    group_info: GroupInfo,
-    attribute_info: AttributeInfo,
-    data: Part,
+    records: Records,
+    data_position: u64,
+    data_length: u64,
 }
 
 unsafe extern "C" {
@@ -193,12 +118,8 @@ impl Object {
             next: self.next,
             entries: self.entries,
             rows: rows.map(|words| row(file, words)).collect(),
-            data_space: self.data_space.answer(),
-            data_type: self.data_type.answer(),
-            link_info: self.link_info.answer(),
-            group_info: self.group_info.answer(),
-            attribute_info: self.attribute_info.answer(),
-            data: bytes(file, self.data.position, self.data.length),
+            records: self.records.clone(),
+            data: bytes(file, self.data_position, self.data_length),
         }
     }
 }
@@ -218,83 +139,4 @@ fn row(file: &[u8], words: &[u64]) -> Row {
 fn bytes(file: &[u8], position: u64, length: u64) -> Vec<u8> {
     let position = position as usize;
     file[position..position + length as usize].to_vec()
-}
-
-impl Optional {
-    fn answer(&self) -> Option<u64> {
-        (self.present != 0).then_some(self.value)
-    }
-}
-
-impl Sizes {
-    fn answer(&self) -> Dimensions {
-        Dimensions {
-            count: self.count,
-            sizes: self.sizes,
-        }
-    }
-}
-
-impl DataSpace {
-    fn answer(&self) -> answer::DataSpace {
-        answer::DataSpace {
-            dimensionality: self.dimensionality,
-            flags: self.flags,
-            kind: self.kind.answer(),
-            sizes: self.size.answer(),
-            maxima: self.maximum_size.answer(),
-        }
-    }
-}
-
-impl DataType {
-    fn answer(&self) -> answer::DataType {
-        answer::DataType {
-            class_and_version: self.class_and_version,
-            class_bit_field: self.class_bit_field,
-            size: self.size,
-            list_size: self.list_size.answer(),
-            format: match self.format_kind {
-                0 => Format::None,
-                1 => Format::Fixed([self.format[0], self.format[1]]),
-                _ => Format::Float(self.format),
-            },
-        }
-    }
-}
-
-impl LinkInfo {
-    fn answer(&self) -> answer::LinkInfo {
-        answer::LinkInfo {
-            flags: self.flags,
-            maximum_creation_index: self.maximum_creation_index.answer(),
-            fractal_heap_address: self.fractal_heap_address,
-            address_btree_index: self.address_btree_index,
-            address_btree_order: self.address_btree_order.answer(),
-        }
-    }
-}
-
-impl GroupInfo {
-    fn answer(&self) -> answer::GroupInfo {
-        answer::GroupInfo {
-            flags: self.flags,
-            maximum_compact_value: self.maximum_compact_value.answer(),
-            minimum_dense_value: self.minimum_dense_value.answer(),
-            number_of_entries: self.number_of_entries.answer(),
-            length_of_entries: self.length_of_entries.answer(),
-        }
-    }
-}
-
-impl AttributeInfo {
-    fn answer(&self) -> answer::AttributeInfo {
-        answer::AttributeInfo {
-            flags: self.flags,
-            maximum_creation_index: self.maximum_creation_index,
-            fractal_heap_address: self.fractal_heap_address,
-            attribute_name_btree: self.attribute_name_btree,
-            attribute_creation_order_btree: self.attribute_creation_order_btree,
-        }
-    }
 }

@@ -1,7 +1,7 @@
-use Rattle.matcher.specs.Laws.{whole-at, whole-not}
+use Rattle.test_report.specs.FollowsLaws.{whole-at, whole-not}
 use borrow.Author.Needs.{needs}
-use Rattle.matcher.proofs.ends.Statement.{statement}
-use Rattle.matcher.proofs.ends.Tie as tie
+use Rattle.test_report.proofs.ends.Statement.{statement}
+use Rattle.test_report.proofs.ends.Tie as tie
 
 enum-known-reached : tie.Need-enum-known-reached
 enum-known-reached c = search needs

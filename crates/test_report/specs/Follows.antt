@@ -4,8 +4,8 @@ use mathlib.Core.Path.{_≡_}
 use mathlib.Core.Bool.{Bool, true}
 use mathlib.Core.List.{List, _++_}
 use lib.ListN.{drop}
-use Rattle.matcher.specs.declared.Matched.{Matched}
-use Rattle.matcher.specs.declared.Matched.the-variants as matches
+use Rattle.test_report.specs.declared.Matched.{Matched}
+use Rattle.test_report.specs.declared.Matched.the-variants as matches
 
 abbrev pub start : Matched
 start = matches.At 0

@@ -1,8 +1,8 @@
-use Rattle.matcher.specs.Laws.{met-none, too-few, next-is, next-is-not}
+use Rattle.test_report.specs.FollowsLaws.{met-none, too-few, next-is, next-is-not}
 use native.Mathlib.Omega.{arith}
 use borrow.Author.Needs.{needs}
-use Rattle.matcher.proofs.expect_bytes.Statement.{statement}
-use Rattle.matcher.proofs.expect_bytes.Tie as tie
+use Rattle.test_report.proofs.expect_bytes.Statement.{statement}
+use Rattle.test_report.proofs.expect_bytes.Tie as tie
 
 enum-known-from : tie.Need-enum-known-from
 enum-known-from c = search needs

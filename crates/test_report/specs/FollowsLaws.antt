@@ -8,9 +8,9 @@ use lib.ListN.{length, take, drop, length-append, length-drop, take-append-drop,
 use lib.Seq.{drop-append-seam, drop-drop, take-append-seam}
 use lib.Dec.{leb}
 use borrow.Author.Tests.{leb-true, le-leb}
-use Rattle.matcher.specs.declared.Matched.{Matched}
-use Rattle.matcher.specs.declared.Matched.the-variants as matches
-use Rattle.matcher.specs.Follows.{Meets, Follows, Whole}
+use Rattle.test_report.specs.declared.Matched.{Matched}
+use Rattle.test_report.specs.declared.Matched.the-variants as matches
+use Rattle.test_report.specs.Follows.{Meets, Follows, Whole}
 
 same-rest : (xs ys zs : List ℕ) → xs ++ ys ≡ xs ++ zs → ys ≡ zs
 same-rest xs ys zs e = sym (drop-append-seam xs ys) ∙ ap (drop (length xs)) e ∙ drop-append-seam xs zs

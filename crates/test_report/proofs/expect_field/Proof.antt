@@ -2,8 +2,8 @@ use mathlib.Core.Path.{ap}
 use lib.ListN.{length}
 use native.Mathlib.Omega.{arith}
 use borrow.Author.Needs.{needs}
-use Rattle.matcher.proofs.expect_field.Statement.{statement}
-use Rattle.matcher.proofs.expect_field.Tie as tie
+use Rattle.test_report.proofs.expect_field.Statement.{statement}
+use Rattle.test_report.proofs.expect_field.Tie as tie
 
 slice-aggregate-put-field : tie.Need-slice-aggregate-put-field
 slice-aggregate-put-field c = search needs
