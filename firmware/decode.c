@@ -16,6 +16,7 @@
 enum { ROWS = 4096 };
 
 static uint64_t table[ROWS * DOWRINGAF_ROW_WORDS];
+static dowringaf_object object;
 
 struct bytes {
     uint8_t *at;
@@ -214,29 +215,29 @@ static void put_attribute_info(const dowringaf_attribute_info *info)
     putchar('\n');
 }
 
-static void put_object(const struct bytes *file, const dowringaf_object *object)
+static void put_object(const struct bytes *file)
 {
     uint64_t i;
 
-    if (object->refused != 0) {
-        printf("refused,%llu\n", (unsigned long long)object->refused);
+    if (object.refused != 0) {
+        printf("refused,%llu\n", (unsigned long long)object.refused);
         return;
     }
     fputs("read", stdout);
-    put_number(object->next);
-    put_number(object->entries);
-    put_number(object->rows);
+    put_number(object.next);
+    put_number(object.entries);
+    put_number(object.rows);
     putchar('\n');
-    for (i = 0; i < object->rows; i++) {
+    for (i = 0; i < object.rows; i++) {
         put_row(file, table + i * DOWRINGAF_ROW_WORDS);
     }
-    put_dataspace(&object->dataspace);
-    put_datatype(&object->datatype);
-    put_link_info(&object->link_info);
-    put_group_info(&object->group_info);
-    put_attribute_info(&object->attribute_info);
+    put_dataspace(&object.dataspace);
+    put_datatype(&object.datatype);
+    put_link_info(&object.link_info);
+    put_group_info(&object.group_info);
+    put_attribute_info(&object.attribute_info);
     fputs("data", stdout);
-    put_part(file, object->data.position, object->data.length);
+    put_part(file, object.data.position, object.data.length);
     putchar('\n');
 }
 
@@ -244,7 +245,6 @@ int main(int count, char **words)
 {
     uint64_t numbers[4];
     struct bytes file;
-    dowringaf_object object;
     int i;
 
     if (count != 6) {
@@ -262,9 +262,9 @@ int main(int count, char **words)
         free(file.at);
         return 2;
     }
-    object = dowringaf_data_object(file.at, file.count, numbers[3], numbers[0], numbers[1],
-                                   numbers[2], table, sizeof table / sizeof table[0]);
-    put_object(&file, &object);
+    dowringaf_data_object(file.at, file.count, numbers[3], numbers[0], numbers[1], numbers[2],
+                          table, sizeof table / sizeof table[0], &object);
+    put_object(&file);
     free(file.at);
     if (fflush(stdout) != 0 || ferror(stdout)) {
         fputs("standard output: cannot be written\n", stderr);

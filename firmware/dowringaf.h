@@ -6,14 +6,15 @@
  *   - they always return, and allocate nothing;
  *   - they keep no state between calls, and call nothing but memset and memcpy;
  *   - they read nothing beyond the elements that they are given;
- *   - they write nothing but the table, or out.
+ *   - they write nothing but the table and the object, or out.
  *
  * The proofs rest on what the caller guarantees. Nothing of it is tested:
  *
  *   - a pointer with a count points to that many initialised elements, aligned; with a count of 0
- *     it may be NULL; out points to DOWRINGAF_LISTING of them;
- *   - the table, or out, overlaps nothing else that the call is given;
- *   - nobody else writes to what is given, and nobody reads the table or out, during the call;
+ *     it may be NULL; out points to DOWRINGAF_LISTING of them, and the object is initialised too;
+ *   - the table, the object, or out, overlaps nothing else that the call is given;
+ *   - nobody else writes to what is given, and nobody reads the table, the object or out, during
+ *     the call;
  *   - the stack has room. The proofs say nothing of it: DOWRINGAF_DECODING_STACK and
  *     DOWRINGAF_LISTING_STACK are bounds on what was measured at the deepest (firmware/stack.c);
  *     the other two functions use less than the first.
@@ -191,11 +192,12 @@ typedef struct dowringaf_found {
 /*
  * Decodes the object header at a position of a file into a table of table_words words: a row of ten
  * words for each message, in the header's order, then zeros. A header that is refused leaves the
- * whole table zero. What stood in the table before makes no difference. Widths are in bytes.
+ * whole table zero. Writes every word of the object. What stood in the table and the object before
+ * makes no difference. Widths are in bytes.
  */
-dowringaf_object dowringaf_data_object(const uint8_t *file, size_t file_bytes, uint64_t position,
-                                       uint64_t offset_width, uint64_t length_width,
-                                       uint64_t end_of_file, uint64_t *table, size_t table_words);
+void dowringaf_data_object(const uint8_t *file, size_t file_bytes, uint64_t position,
+                           uint64_t offset_width, uint64_t length_width, uint64_t end_of_file,
+                           uint64_t *table, size_t table_words, dowringaf_object *object);
 
 /*
  * Finds the first attribute among the first rows of a table whose name in the file is the wanted

@@ -96,8 +96,8 @@ static void *nothing(void *unused)
 
 static void *decode(void *unused)
 {
-    object = dowringaf_data_object(file, count, 0, 8, 8, count, table,
-                                   sizeof table / sizeof table[0]);
+    dowringaf_data_object(file, count, 0, 8, 8, count, table, sizeof table / sizeof table[0],
+                          &object);
     return unused;
 }
 

@@ -80,6 +80,12 @@ static uint64_t *ones(size_t words)
     return table;
 }
 
+/* An object that holds ones. */
+static dowringaf_object *object_of_ones(void)
+{
+    return (dowringaf_object *)ones(sizeof(dowringaf_object) / sizeof(uint64_t));
+}
+
 /* A file that is written from its start on. */
 struct writer {
     uint8_t bytes[1024];
@@ -334,21 +340,21 @@ static void test_full(void)
     size_t words = MESSAGES * DOWRINGAF_ROW_WORDS + 13;
     uint64_t *table = ones(words);
     uint8_t *file;
-    dowringaf_object o;
+    dowringaf_object *o = object_of_ones();
     dowringaf_part part;
 
     write_full(&w, &p);
     file = copy(w.bytes, w.count);
-    o = dowringaf_data_object(file, w.count, HEADER_FROM, OFFSET, LENGTH, w.count, table, words);
-    IS(o.refused, 0);
-    IS(o.next, p.next);
-    IS(o.entries, MESSAGES);
-    IS(o.rows, MESSAGES);
-    compare_spaces(&o.dataspace);
-    compare_types(&o.datatype);
-    compare_infos(&o);
-    IS(o.data.position, p.data);
-    IS(o.data.length, 9);
+    dowringaf_data_object(file, w.count, HEADER_FROM, OFFSET, LENGTH, w.count, table, words, o);
+    IS(o->refused, 0);
+    IS(o->next, p.next);
+    IS(o->entries, MESSAGES);
+    IS(o->rows, MESSAGES);
+    compare_spaces(&o->dataspace);
+    compare_types(&o->datatype);
+    compare_infos(o);
+    IS(o->data.position, p.data);
+    IS(o->data.length, 9);
     compare_rows(table, words, &p);
     look_up(file, w.count, table, words, MESSAGES, "Unit", 0, 1, 5);
     look_up(file, w.count, table, words, MESSAGES, "Units", 0, 0, 0);
@@ -357,12 +363,13 @@ static void test_full(void)
     look_up(file, p.name + 3, table, words, MESSAGES, "Unit", 0, 0, 0);
     look_up(file, w.count, table, words, words / 10 + 1, "Unit", DOWRINGAF_TABLE, 0, 0);
     look_up(NULL, 0, NULL, 0, 0, "", 0, 0, 0);
-    part = dowringaf_layout_data(file, w.count, o.data.position, o.data.length);
+    part = dowringaf_layout_data(file, w.count, o->data.position, o->data.length);
     IS(part.position, p.data);
     IS(part.length, 9);
     IS((uint64_t)memcmp(file + part.position, "the bytes", 9), 0);
     free(file);
     free(table);
+    free(o);
 }
 
 static void compare_zeros(const dowringaf_object *o, const uint64_t *table, size_t words)
@@ -384,13 +391,14 @@ static void refuse(const uint8_t *bytes, size_t n, uint64_t position, uint64_t o
 {
     uint8_t *file = copy(bytes, n);
     uint64_t *table = ones(words);
-    dowringaf_object o =
-        dowringaf_data_object(file, n, position, offset_width, LENGTH, 1024, table, words);
+    dowringaf_object *o = object_of_ones();
 
-    IS(o.refused, number);
-    compare_zeros(&o, table, words);
+    dowringaf_data_object(file, n, position, offset_width, LENGTH, 1024, table, words, o);
+    IS(o->refused, number);
+    compare_zeros(o, table, words);
     free(file);
     free(table);
+    free(o);
 }
 
 /* Refusals: every cut of the full header is short, and leaves nothing but zeros. */
@@ -486,7 +494,7 @@ static void test_fixed(void)
     struct writer w;
     uint8_t *file;
     uint64_t *table = ones(10);
-    dowringaf_object o;
+    dowringaf_object *o = object_of_ones();
 
     w.count = 0;
     put_text(&w, "OHDR");
@@ -501,26 +509,27 @@ static void test_fixed(void)
     put(&w, 27, 2);
     put(&w, 0, 4);
     file = copy(w.bytes, w.count);
-    o = dowringaf_data_object(file, w.count, 0, 2, 2, w.count, table, 10);
-    IS(o.refused, 0);
-    IS(o.next, w.count);
-    IS(o.rows, 1);
-    IS(o.datatype.class_and_version, 0x10);
-    IS(o.datatype.list_size.present, 0);
-    IS(o.datatype.list_size.value, 0);
-    IS(o.datatype.format.kind, DOWRINGAF_FORMAT_FIXED);
-    IS(o.datatype.format.bit_offset, 5);
-    IS(o.datatype.format.bit_precision, 27);
-    IS(o.datatype.format.exponent_location, 0);
-    IS(o.datatype.format.exponent_size, 0);
-    IS(o.datatype.format.mantissa_size, 0);
-    IS(o.datatype.format.exponent_bias, 0);
-    IS(o.dataspace.kind.present, 0);
-    IS(o.group_info.maximum_compact_value.present, 0);
-    IS(o.data.position, 0);
-    IS(o.data.length, 0);
+    dowringaf_data_object(file, w.count, 0, 2, 2, w.count, table, 10, o);
+    IS(o->refused, 0);
+    IS(o->next, w.count);
+    IS(o->rows, 1);
+    IS(o->datatype.class_and_version, 0x10);
+    IS(o->datatype.list_size.present, 0);
+    IS(o->datatype.list_size.value, 0);
+    IS(o->datatype.format.kind, DOWRINGAF_FORMAT_FIXED);
+    IS(o->datatype.format.bit_offset, 5);
+    IS(o->datatype.format.bit_precision, 27);
+    IS(o->datatype.format.exponent_location, 0);
+    IS(o->datatype.format.exponent_size, 0);
+    IS(o->datatype.format.mantissa_size, 0);
+    IS(o->datatype.format.exponent_bias, 0);
+    IS(o->dataspace.kind.present, 0);
+    IS(o->group_info.maximum_compact_value.present, 0);
+    IS(o->data.position, 0);
+    IS(o->data.length, 0);
     free(file);
     free(table);
+    free(o);
 }
 
 /* A continuation counts as an entry, and has no row. */
@@ -529,7 +538,7 @@ static void test_block(void)
     struct writer w;
     uint8_t *file;
     uint64_t *table = ones(20);
-    dowringaf_object o;
+    dowringaf_object *o = object_of_ones();
     size_t i;
 
     w.count = 0;
@@ -546,11 +555,11 @@ static void test_block(void)
     entry(&w, 255, 0, 0);
     put(&w, 0, 4);
     file = copy(w.bytes, w.count);
-    o = dowringaf_data_object(file, w.count, 0, 2, 2, w.count, table, 20);
-    IS(o.refused, 0);
-    IS(o.next, 19);
-    IS(o.entries, 3);
-    IS(o.rows, 2);
+    dowringaf_data_object(file, w.count, 0, 2, 2, w.count, table, 20, o);
+    IS(o->refused, 0);
+    IS(o->next, 19);
+    IS(o->entries, 3);
+    IS(o->rows, 2);
     IS(table[DOWRINGAF_ROW_BODY], 27);
     IS(table[DOWRINGAF_ROW_WORDS + DOWRINGAF_ROW_TYPE], 255);
     IS(table[DOWRINGAF_ROW_WORDS + DOWRINGAF_ROW_BODY], 31);
@@ -559,6 +568,7 @@ static void test_block(void)
     }
     free(file);
     free(table);
+    free(o);
 }
 
 static void part_is(size_t position, size_t length, uint64_t got_position, uint64_t got_length)

@@ -8,18 +8,18 @@ use Rattle.format.specs.Format.{pick}
 use Rattle.records.specs.declared.Part.{Part}
 use Rattle.data_object.specs.declared.DataObject.{DataObject}
 use Rattle.data_object.specs.Decoded.{Decoded, bytesOf}
+use Rattle.data_object_words.specs.Words.{wordsOf}
 use Rattle.lookup.specs.declared.LookupAnswer.{LookupAnswer}
 use Rattle.lookup.specs.Lookup.{Looked}
 use Rattle.firmware.specs.declared.PartWords.{PartWords}
-use Rattle.firmware.specs.declared.DataObjectWords.{DataObjectWords}
 use Rattle.firmware.specs.declared.LookupWords.{LookupWords}
-use Rattle.firmware.specs.Words.{noPart, partOf, wordsOf, lookupOf}
+use Rattle.firmware.specs.Words.{noPart, inWords, lookupOf}
 
 -- the words of what decoding yields, which leaves t of a table of n words
-pub record Handed (file : List ℕ) (offsets lengths end at n : ℕ) (r : DataObjectWords) (t : List ℕ) : Type 0 where
+pub record Handed (file : List ℕ) (offsets lengths end at n : ℕ) (t w : List ℕ) : Type 0 where
   pub object : DataObject
   pub decoded : Decoded file offsets lengths end at n object t
-  pub words : r ≡ wordsOf object
+  pub words : w ≡ wordsOf object
 
 -- the words of what a lookup yields
 pub record HandedRow (file table : List ℕ) (rows : ℕ) (name : List ℕ) (r : LookupWords) : Type 0 where
@@ -29,6 +29,6 @@ pub record HandedRow (file table : List ℕ) (rows : ℕ) (name : List ℕ) (r :
 
 -- the part itself where it lies in the file, and none where it leaves it; what is handed over lies in the file, and its bytes are the part's
 pub record HandedPart (file : List ℕ) (p : Part) (r : PartWords) : Type 0 where
-  pub itself : r ≡ pick (leb (p .position + p .length) (length file)) (partOf p) noPart
+  pub itself : r ≡ pick (leb (p .position + p .length) (length file)) (inWords p) noPart
   pub inside : r .position + r .length ≤ length file
   pub bytes : take (r .length) (drop (r .position) file) ≡ bytesOf file p

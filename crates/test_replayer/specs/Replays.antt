@@ -7,6 +7,7 @@ use lib.ListN.{drop}
 use Rattle.format.specs.Format.{Out, found, refused, read}
 use Rattle.data_object.specs.declared.DataObject.{DataObject}
 use Rattle.data_object.specs.Decoded.{Decoded}
+use Rattle.data_object_words.specs.Words.{wordsOf}
 use Rattle.listing.specs.declared.Lead.{Lead}
 use Rattle.listing.specs.Listing.{lead}
 use Rattle.test_report.specs.Report.{reportOf}
@@ -16,7 +17,7 @@ pub record Answered (file : List ℕ) (l : Lead) (expected : List ℕ) (b : Bool
   pub object : DataObject
   pub table : List ℕ
   pub decoded : Decoded file (l .offsets) (l .lengths) (l .«end_of_file») (l .position) 640 object table
-  pub says : (b ≡ true → reportOf file object table ≡ expected) × (reportOf file object table ≡ expected → b ≡ true)
+  pub says : (b ≡ true → reportOf file table (wordsOf object) ≡ expected) × (reportOf file table (wordsOf object) ≡ expected → b ≡ true)
 
 -- what follows the lead bytes is the file; an input with fewer than the 18 lead bytes does not pass
 abbrev pub ReplaysBy : List ℕ → List ℕ → Bool → Out Lead → Type 0

@@ -1,8 +1,9 @@
 // Replays a stored answer.
 use data_object::data_object;
+use data_object_words::put_words;
 use listing::LeadRead;
 use listing::read_lead;
-use matcher::ends;
+use test_report::ends;
 use test_report::expect_report;
 ghost use Rattle.test_replayer.specs.Replays.{Replays};
 
@@ -23,6 +24,8 @@ pub fn replays(input: &[u8], expected: &[u8]) -> bool
         lead.end_of_file,
         &mut table,
     );
-    let reached = expect_report(expected, file, &table, object);
+    let mut words = [0u64; 54];
+    put_words(object, &mut words);
+    let reached = expect_report(expected, file, &table, &words);
     ends(expected, reached)
 }

@@ -1,13 +1,14 @@
 -- Laws of the report. Assumes nothing.
-use Prim.Native.Nat.{ℕ, _+_}
-use mathlib.Core.Path.{_≡_, refl, ap}
+use Prim.Native.Nat.{ℕ, _+_, _-_, _≤_}
+use mathlib.Core.Path.{_≡_, refl}
+use mathlib.Core.Bool.{true}
 use mathlib.Core.List.{List, [], _++_}
 use native.Mathlib.Numerals.{add-one}
+use native.Mathlib.Omega.{arith}
+use lib.ListN.{getD}
+use Rattle.text.specs.Text.{field}
 use Rattle.listing.specs.Listing.{rowAt}
-use Rattle.records.specs.declared.Refusal.{Refusal}
-use Rattle.data_object.specs.declared.Answer.the-variants as answers
-use Rattle.data_object.specs.declared.DataObject.{DataObject}
-use Rattle.test_report.specs.Report.{rowsOf, rowOf, answerOf, refusedOf, reportBy, reportOf}
+use Rattle.test_report.specs.Report.{rowsOf, rowOf, figuresOf}
 
 pub rows-more : (file t : List ℕ) (n : ℕ) → rowsOf file t (n + 1) ≡ rowsOf file t n ++ rowOf file (rowAt t n)
 unfolding rowsOf
@@ -17,12 +18,14 @@ pub rows-none : (file t : List ℕ) → rowsOf file t 0 ≡ []
 unfolding rowsOf
 rows-none file t = refl
 
--- the report by the answer
-module _ (file : List ℕ) (object : DataObject) (t : List ℕ) where
-  pub report-read : {next entries : ℕ} → object .answer ≡ answers.Read next entries → reportOf file object t ≡ answerOf file object t next entries
-  unfolding reportOf reportBy
-  report-read e = ap (reportBy file object t) e
+-- the words from a place up to i, and one more
+pub figures-none : (words : List ℕ) (first : ℕ) → figuresOf words first (first - first) ≡ []
+unfolding figuresOf
+figures-none words first = let e : first - first ≡ 0 = omega arith in rw e
 
-  pub report-refused : {r : Refusal} → object .answer ≡ answers.Refused r → reportOf file object t ≡ refusedOf
-  unfolding reportOf reportBy
-  report-refused e = ap (reportBy file object t) e
+pub figures-more : (words : List ℕ) (first i : ℕ) → first ≤ i → figuresOf words first (i + 1 - first) ≡ figuresOf words first (i - first) ++ field true (getD words i 0) 44
+unfolding figuresOf
+figures-more words first i h =
+    let e : i + 1 - first ≡ i - first + 1 = omega arith in
+    let k : first + (i - first) ≡ i = omega arith in
+    rw (e, add-one (i - first), k)

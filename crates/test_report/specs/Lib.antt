@@ -1,2 +1,4 @@
+pub mod Follows
+pub mod FollowsLaws
 pub mod Report
 pub mod Laws

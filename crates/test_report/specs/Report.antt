@@ -1,27 +1,17 @@
--- The report of a decoded header: what the answer, the table and the records are, as lines of text. Assumes nothing: these are definitions.
-use Prim.Native.Nat.{ℕ, zero, suc}
+-- The report of a decoded header: its words and its table as lines of text. Assumes nothing: these are definitions.
+use Prim.Native.Nat.{ℕ, zero, suc, _+_, _-_}
 use mathlib.Core.Bool.{Bool, true}
 use mathlib.Core.List.{List, [], _∷_, _++_}
+use lib.ListN.{getD}
+use lib.Dec.{eqb}
 use Rattle.format.specs.Format.{pick}
 use Rattle.text.specs.Text.{field}
 use Rattle.listing.specs.declared.Row.{Row}
 use Rattle.listing.specs.Listing.{yes, rowAt}
 use Rattle.records.specs.declared.Part.{Part}
-use Rattle.test_record_lines.specs.Lines.{dataspaceOf, datatypeOf, linkInfoOf, groupInfoOf, attributeInfoOf}
-use Rattle.data_object.specs.declared.Answer.{Answer}
-use Rattle.data_object.specs.declared.Answer.the-variants as answers
-use Rattle.data_object.specs.declared.DataObject.{DataObject}
 use Rattle.data_object.specs.Decoded.{bytesOf}
 
 -- In all of these 44 is a comma and 10 ends a line. What is absent is a hyphen.
-
--- `read,NEXT,ENTRIES,ROWS`
-unfoldable pub readOf : ℕ → ℕ → ℕ → List ℕ
-readOf next entries rows =
-    (114 ∷ 101 ∷ 97 ∷ 100 ∷ 44 ∷ [])
-    ++ (field true next 44
-    ++ (field true entries 44
-    ++ field true rows 10))
 
 -- a part's length, a comma and its bytes; a hyphen and a comma where there is none
 unfoldable pub pieceOf : List ℕ → Bool → Part → List ℕ
@@ -53,25 +43,41 @@ rowsOf file t (suc n) = rowsOf file t n ++ rowOf file (rowAt t n)
 unfoldable pub dataOf : List ℕ → Part → List ℕ
 dataOf file part = (100 ∷ 97 ∷ 116 ∷ 97 ∷ 44 ∷ []) ++ (pieceOf file true part ++ (10 ∷ []))
 
--- a header that is read, with its rows and its records
-unfoldable pub answerOf : List ℕ → DataObject → List ℕ → ℕ → ℕ → List ℕ
-answerOf file object table next entries =
-    readOf next entries (object .rows)
-    ++ (rowsOf file table (object .rows)
-    ++ (dataspaceOf (object .ds)
-    ++ (datatypeOf (object .dt)
-    ++ (linkInfoOf (object .li)
-    ++ (groupInfoOf (object .gi)
-    ++ (attributeInfoOf (object .ai)
-    ++ dataOf file (object .«data»)))))))
+-- the words from a place on, n of them, each with a comma
+unfoldable pub figuresOf : List ℕ → ℕ → ℕ → List ℕ
+figuresOf words first zero = []
+figuresOf words first (suc n) = figuresOf words first n ++ field true (getD words (first + n) 0) 44
+
+-- `WORD,..,WORD`: from one place to another, the last among them
+unfoldable pub wordsLine : List ℕ → ℕ → ℕ → List ℕ
+wordsLine words first last = figuresOf words first (last - first) ++ field true (getD words last 0) 10
+
+-- `dataspace,`, `datatype,`, `link_info,`, `group_info,` and `attribute_info,`, each with the words of the record
+unfoldable pub recordsOf : List ℕ → List ℕ
+recordsOf words =
+    (100 ∷ 97 ∷ 116 ∷ 97 ∷ 115 ∷ 112 ∷ 97 ∷ 99 ∷ 101 ∷ 44 ∷ [])
+    ++ (wordsLine words 4 17
+    ++ ((100 ∷ 97 ∷ 116 ∷ 97 ∷ 116 ∷ 121 ∷ 112 ∷ 101 ∷ 44 ∷ [])
+    ++ (wordsLine words 18 30
+    ++ ((108 ∷ 105 ∷ 110 ∷ 107 ∷ 95 ∷ 105 ∷ 110 ∷ 102 ∷ 111 ∷ 44 ∷ [])
+    ++ (wordsLine words 31 37
+    ++ ((103 ∷ 114 ∷ 111 ∷ 117 ∷ 112 ∷ 95 ∷ 105 ∷ 110 ∷ 102 ∷ 111 ∷ 44 ∷ [])
+    ++ (wordsLine words 38 46
+    ++ ((97 ∷ 116 ∷ 116 ∷ 114 ∷ 105 ∷ 98 ∷ 117 ∷ 116 ∷ 101 ∷ 95 ∷ 105 ∷ 110 ∷ 102 ∷ 111 ∷ 44 ∷ []) ++ wordsLine words 47 51))))))))
 
 -- `refused`, whatever the number
 unfoldable pub refusedOf : List ℕ
 refusedOf = (114 ∷ 101 ∷ 102 ∷ 117 ∷ 115 ∷ 101 ∷ 100 ∷ 10 ∷ [])
 
-unfoldable pub reportBy : List ℕ → DataObject → List ℕ → Answer → List ℕ
-reportBy file object table (answers.Read next entries) = answerOf file object table next entries
-reportBy file object table (answers.Refused refusal) = refusedOf
+-- a header that is read: `read,NEXT,ENTRIES,ROWS`, its rows, its records and its data
+unfoldable pub answerOf : List ℕ → List ℕ → List ℕ → List ℕ
+answerOf file table words =
+    (114 ∷ 101 ∷ 97 ∷ 100 ∷ 44 ∷ [])
+    ++ (wordsLine words 1 3
+    ++ (rowsOf file table (getD words 3 0)
+    ++ (recordsOf words
+    ++ dataOf file (record { position = getD words 52 0; length = getD words 53 0 }))))
 
-unfoldable pub reportOf : List ℕ → DataObject → List ℕ → List ℕ
-reportOf file object table = reportBy file object table (object .answer)
+-- the report of a header whose words these are, in the order of `wordsOf`, and whose rows stand in the table
+unfoldable pub reportOf : List ℕ → List ℕ → List ℕ → List ℕ
+reportOf file table words = pick (eqb (getD words 0 0) 0) (answerOf file table words) refusedOf

@@ -1,22 +1,61 @@
-// The report of a decoded header, compared line by line with the bytes that are expected.
-use data_object::Answer;
-use data_object::DataObject;
+// The report of a decoded header, compared piece after piece with the bytes that are expected.
 use data_object::layout_data;
 use listing::Row;
 use listing::row_at;
-use matcher::Matched;
-use matcher::expect_bytes;
-use matcher::expect_field;
 use records::Part;
-use test_record_lines::expect_attribute_info;
-use test_record_lines::expect_data_space;
-use test_record_lines::expect_data_type;
-use test_record_lines::expect_group_info;
-use test_record_lines::expect_link_info;
-ghost use Prim.Native.Nat.{_/_, _≤_};
-ghost use lib.ListN.{length};
-ghost use Rattle.matcher.specs.Follows.{Follows, start};
-ghost use Rattle.test_report.specs.Report.{readOf, headOf, pieceOf, rowOf, rowsOf, dataOf, answerOf, reportOf};
+ghost use Prim.Native.Nat.{_/_, _≤_, _<_};
+ghost use lib.ListN.{length, getD};
+ghost use Rattle.text.specs.Text.{field};
+ghost use Rattle.test_report.specs.Follows.{Follows, Whole, start};
+ghost use Rattle.test_report.specs.Report.{pieceOf, headOf, rowOf, rowsOf, dataOf, wordsLine, recordsOf, reportOf};
+
+// The expected bytes are met up to a position, or differ before it.
+pub enum Matched {
+    At(usize),
+    Differs,
+}
+
+// The bytes stand next.
+pub fn expect_bytes(expected: &[u8], from: Matched, bytes: &[u8]) -> Matched
+    ensures { λ r. ⌜ Follows (now (expected .entry)) from r (now (bytes .entry)) ⌝ }
+{
+    let Matched::At(at) = from else {
+        return Matched::Differs;
+    };
+    if bytes.len() == 0 {
+        return Matched::At(at);
+    }
+    if expected.len() < at {
+        return Matched::Differs;
+    }
+    if expected.len() - at < bytes.len() {
+        return Matched::Differs;
+    }
+    let end = at + bytes.len();
+    if check::same(&expected[at..end], bytes) {
+        return Matched::At(end);
+    }
+    Matched::Differs
+}
+
+// A figure, or a hyphen where there is none, stands next, and then the byte that ends it.
+pub fn expect_field(expected: &[u8], from: Matched, present: bool, n: u64, end: u8) -> Matched
+    ensures { λ r. ⌜ Follows (now (expected .entry)) from r (field present n end) ⌝ }
+{
+    let mut out = [0u8; 21];
+    let k = text::put_field(&mut out, 0, present, n, end);
+    expect_bytes(expected, from, &out[..k])
+}
+
+// Whether a text that was met from the start on is all that is expected.
+pub fn ends(expected: &[u8], reached: Matched) -> bool
+    ensures { λ r. ⌜ Whole (now (expected .entry)) reached r ⌝ }
+{
+    match reached {
+        Matched::At(at) => expected.len() <= at,
+        Matched::Differs => false,
+    }
+}
 
 // The length of a part and its bytes.
 fn expect_piece(expected: &[u8], from: Matched, file: &[u8], present: bool, part: Part) -> Matched
@@ -78,51 +117,58 @@ fn expect_data(expected: &[u8], from: Matched, file: &[u8], part: Part) -> Match
     expect_bytes(expected, met, b"\n")
 }
 
-fn expect_read(expected: &[u8], next: usize, entries: usize, rows: usize) -> Matched
-    ensures { λ r. ⌜ Follows (now (expected .entry)) start r (readOf next entries rows) ⌝ }
-{
-    let met = expect_bytes(expected, Matched::At(0), b"read,");
-    let met = expect_field(expected, met, true, next as u64, b',');
-    let met = expect_field(expected, met, true, entries as u64, b',');
-    expect_field(expected, met, true, rows as u64, b'\n')
-}
-
-// The report of a header that is read.
-fn expect_answer(
+// The words from one place to another, the last among them, as the rest of a line.
+fn expect_words(
     expected: &[u8],
-    file: &[u8],
-    table: &[u64],
-    object: DataObject,
-    next: usize,
-    entries: usize,
+    from: Matched,
+    words: &[u64; 54],
+    first: usize,
+    last: usize,
 ) -> Matched
-    requires { ⌜ object .rows ≤ length (now table) / 10 ⌝ }
-    ensures { λ r. ⌜ Follows (now (expected .entry)) start r (answerOf (now (file .entry)) object (now (table .entry)) next entries) ⌝ }
+    requires { ⌜ (first ≤ last) × (last < 54) ⌝ }
+    ensures { λ r. ⌜ Follows (now (expected .entry)) from r (wordsLine (now (words .entry)) first last) ⌝ }
 {
-    let space = object.ds;
-    let datatype = object.dt;
-    let link = object.li;
-    let group = object.gi;
-    let attribute = object.ai;
-    let data = object.data;
-    let met = expect_read(expected, next, entries, object.rows);
-    let met = expect_rows(expected, met, file, table, object.rows);
-    let met = expect_data_space(expected, met, space);
-    let met = expect_data_type(expected, met, datatype);
-    let met = expect_link_info(expected, met, link);
-    let met = expect_group_info(expected, met, group);
-    let met = expect_attribute_info(expected, met, attribute);
-    expect_data(expected, met, file, data)
+    let mut met = from;
+    let mut i = first;
+    while i < last {
+        met = expect_field(expected, met, true, words[i], b',');
+        i += 1;
+    }
+    expect_field(expected, met, true, words[last], b'\n')
 }
 
-// How far the report of a decoded header stands at the start of what is expected.
-pub fn expect_report(expected: &[u8], file: &[u8], table: &[u64], object: DataObject) -> Matched
-    requires { ⌜ object .rows ≤ length (now table) / 10 ⌝ }
-    ensures { λ r. ⌜ Follows (now (expected .entry)) start r (reportOf (now (file .entry)) object (now (table .entry))) ⌝ }
+// A line for each record.
+fn expect_records(expected: &[u8], from: Matched, words: &[u64; 54]) -> Matched
+    ensures { λ r. ⌜ Follows (now (expected .entry)) from r (recordsOf (now (words .entry))) ⌝ }
 {
-    let answer = object.answer;
-    match answer {
-        Answer::Read(next, entries) => expect_answer(expected, file, table, object, next, entries),
-        Answer::Refused(_) => expect_bytes(expected, Matched::At(0), b"refused\n"),
+    let met = expect_bytes(expected, from, b"dataspace,");
+    let met = expect_words(expected, met, words, 4, 17);
+    let met = expect_bytes(expected, met, b"datatype,");
+    let met = expect_words(expected, met, words, 18, 30);
+    let met = expect_bytes(expected, met, b"link_info,");
+    let met = expect_words(expected, met, words, 31, 37);
+    let met = expect_bytes(expected, met, b"group_info,");
+    let met = expect_words(expected, met, words, 38, 46);
+    let met = expect_bytes(expected, met, b"attribute_info,");
+    expect_words(expected, met, words, 47, 51)
+}
+
+// How far the report of a header, given as its words and its table, stands at the start of what is
+// expected.
+pub fn expect_report(expected: &[u8], file: &[u8], table: &[u64], words: &[u64; 54]) -> Matched
+    requires { ⌜ getD (now words) 3 0 ≤ length (now table) / 10 ⌝ }
+    ensures { λ r. ⌜ Follows (now (expected .entry)) start r (reportOf (now (file .entry)) (now (table .entry)) (now (words .entry))) ⌝ }
+{
+    if words[0] != 0 {
+        return expect_bytes(expected, Matched::At(0), b"refused\n");
     }
+    let part = Part {
+        position: words[52] as usize,
+        length: words[53] as usize,
+    };
+    let met = expect_bytes(expected, Matched::At(0), b"read,");
+    let met = expect_words(expected, met, words, 1, 3);
+    let met = expect_rows(expected, met, file, table, words[3] as usize);
+    let met = expect_records(expected, met, words);
+    expect_data(expected, met, file, part)
 }

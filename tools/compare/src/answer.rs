@@ -14,6 +14,26 @@ pub struct Row {
     pub part: Option<Vec<u8>>,
 }
 
+// The records as the words of dowringaf.h: each struct is made of 64-bit words alone.
+
+/// A field that may be absent: 1 and its value, or 0 and 0.
+#[repr(C)]
+#[derive(Clone, Debug, Default, PartialEq, Eq)]
+pub struct Optional {
+    pub present: u64,
+    pub value: u64,
+}
+
+impl<T: Into<u64>> From<Option<T>> for Optional {
+    fn from(field: Option<T>) -> Optional {
+        Optional {
+            present: field.is_some().into(),
+            value: field.map_or(0, T::into),
+        }
+    }
+}
+
+#[repr(C)]
 #[derive(Clone, Debug, Default, PartialEq, Eq)]
 pub struct Dimensions {
     pub count: u64,
@@ -21,51 +41,64 @@ pub struct Dimensions {
     pub sizes: [u64; 4],
 }
 
+#[repr(C)]
 #[derive(Clone, Debug, Default, PartialEq, Eq)]
 pub struct DataSpace {
     pub dimensionality: u64,
     pub flags: u64,
-    pub kind: Option<u64>,
+    pub kind: Optional,
     pub sizes: Dimensions,
     pub maxima: Dimensions,
 }
 
-#[derive(Clone, Debug, PartialEq, Eq)]
-pub enum Format {
-    None,
-    /// Offset and precision.
-    Fixed([u64; 2]),
-    /// Offset, precision, exponent location and size, mantissa location and size, bias.
-    Float([u64; 7]),
+/// The kinds of a format; 0 is none.
+pub const FIXED: u64 = 1;
+pub const FLOAT: u64 = 2;
+
+#[repr(C)]
+#[derive(Clone, Debug, Default, PartialEq, Eq)]
+pub struct Format {
+    pub kind: u64,
+    pub bit_offset: u64,
+    pub bit_precision: u64,
+    pub exponent_location: u64,
+    pub exponent_size: u64,
+    pub mantissa_location: u64,
+    pub mantissa_size: u64,
+    pub exponent_bias: u64,
 }
 
-#[derive(Clone, Debug, PartialEq, Eq)]
+#[repr(C)]
+#[derive(Clone, Debug, Default, PartialEq, Eq)]
 pub struct DataType {
     pub class_and_version: u64,
     pub class_bit_field: u64,
     pub size: u64,
-    pub list_size: Option<u64>,
+    pub list_size: Optional,
     pub format: Format,
 }
 
+#[repr(C)]
 #[derive(Clone, Debug, Default, PartialEq, Eq)]
 pub struct LinkInfo {
     pub flags: u64,
-    pub maximum_creation_index: Option<u64>,
+    pub maximum_creation_index: Optional,
     pub fractal_heap_address: u64,
     pub address_btree_index: u64,
-    pub address_btree_order: Option<u64>,
+    pub address_btree_order: Optional,
 }
 
+#[repr(C)]
 #[derive(Clone, Debug, Default, PartialEq, Eq)]
 pub struct GroupInfo {
     pub flags: u64,
-    pub maximum_compact_value: Option<u64>,
-    pub minimum_dense_value: Option<u64>,
-    pub number_of_entries: Option<u64>,
-    pub length_of_entries: Option<u64>,
+    pub maximum_compact_value: Optional,
+    pub minimum_dense_value: Optional,
+    pub number_of_entries: Optional,
+    pub length_of_entries: Optional,
 }
 
+#[repr(C)]
 #[derive(Clone, Debug, Default, PartialEq, Eq)]
 pub struct AttributeInfo {
     pub flags: u64,
@@ -75,16 +108,22 @@ pub struct AttributeInfo {
     pub attribute_creation_order_btree: u64,
 }
 
-#[derive(Clone, Debug, PartialEq, Eq)]
-pub struct Header {
-    pub next: u64,
-    pub entries: u64,
-    pub rows: Vec<Row>,
+#[repr(C)]
+#[derive(Clone, Debug, Default, PartialEq, Eq)]
+pub struct Records {
     pub data_space: DataSpace,
     pub data_type: DataType,
     pub link_info: LinkInfo,
     pub group_info: GroupInfo,
     pub attribute_info: AttributeInfo,
+}
+
+#[derive(Clone, Debug, Default, PartialEq, Eq)]
+pub struct Header {
+    pub next: u64,
+    pub entries: u64,
+    pub rows: Vec<Row>,
+    pub records: Records,
     pub data: Vec<u8>,
 }
 
@@ -98,19 +137,20 @@ impl Header {
     /// The report. Texts are converted to UTF-8, lossily, as the Rust has them.
     pub fn report(&self) -> Vec<u8> {
         let mut out = Vec::with_capacity(512);
+        let records = &self.records;
         line(
             &mut out,
             "read",
-            &numbers(&[self.next, self.entries, self.rows.len() as u64]),
+            &[self.next, self.entries, self.rows.len() as u64],
         );
         for row in &self.rows {
             row.write(&mut out);
         }
-        line(&mut out, "dataspace", &self.data_space.fields());
-        line(&mut out, "datatype", &self.data_type.fields());
-        line(&mut out, "link_info", &self.link_info.fields());
-        line(&mut out, "group_info", &self.group_info.fields());
-        line(&mut out, "attribute_info", &self.attribute_info.fields());
+        line(&mut out, "dataspace", words(&records.data_space));
+        line(&mut out, "datatype", words(&records.data_type));
+        line(&mut out, "link_info", words(&records.link_info));
+        line(&mut out, "group_info", words(&records.group_info));
+        line(&mut out, "attribute_info", words(&records.attribute_info));
         out.extend(b"data");
         blob(&mut out, Some(&self.data));
         out.push(b'\n');
@@ -143,82 +183,17 @@ impl Row {
     }
 }
 
-impl DataSpace {
-    fn fields(&self) -> Vec<Option<u64>> {
-        let mut fields = vec![Some(self.dimensionality), Some(self.flags), self.kind];
-        for dimensions in [&self.sizes, &self.maxima] {
-            fields.push(Some(dimensions.count));
-            fields.extend(dimensions.sizes.map(Some));
-        }
-        fields
-    }
+/// The words of a record.
+fn words<T>(record: &T) -> &[u64] {
+    let count = size_of::<T>() / size_of::<u64>();
+    // A record has the layout of C, and nothing but 64-bit words.
+    unsafe { std::slice::from_raw_parts(std::ptr::from_ref(record).cast(), count) }
 }
 
-impl DataType {
-    fn fields(&self) -> Vec<Option<u64>> {
-        let mut fields = vec![
-            Some(self.class_and_version),
-            Some(self.class_bit_field),
-            Some(self.size),
-            self.list_size,
-        ];
-        match &self.format {
-            Format::None => {}
-            Format::Fixed(f) => fields.extend(f.map(Some)),
-            Format::Float(f) => fields.extend(f.map(Some)),
-        }
-        fields.resize(11, None);
-        fields
-    }
-}
-
-impl LinkInfo {
-    fn fields(&self) -> Vec<Option<u64>> {
-        vec![
-            Some(self.flags),
-            self.maximum_creation_index,
-            Some(self.fractal_heap_address),
-            Some(self.address_btree_index),
-            self.address_btree_order,
-        ]
-    }
-}
-
-impl GroupInfo {
-    fn fields(&self) -> Vec<Option<u64>> {
-        vec![
-            Some(self.flags),
-            self.maximum_compact_value,
-            self.minimum_dense_value,
-            self.number_of_entries,
-            self.length_of_entries,
-        ]
-    }
-}
-
-impl AttributeInfo {
-    fn fields(&self) -> Vec<Option<u64>> {
-        numbers(&[
-            self.flags,
-            self.maximum_creation_index,
-            self.fractal_heap_address,
-            self.attribute_name_btree,
-            self.attribute_creation_order_btree,
-        ])
-    }
-}
-
-fn numbers(values: &[u64]) -> Vec<Option<u64>> {
-    values.iter().copied().map(Some).collect()
-}
-
-fn line(out: &mut Vec<u8>, word: &str, fields: &[Option<u64>]) {
+fn line(out: &mut Vec<u8>, word: &str, numbers: &[u64]) {
     out.extend(word.as_bytes());
-    for field in fields {
-        match field {
-            Some(number) => write!(out, ",{number}").expect("memory"),
-            None => out.extend(b",-"),
-        }
+    for number in numbers {
+        write!(out, ",{number}").expect("memory");
     }
     out.push(b'\n');
 }

@@ -13,7 +13,7 @@ use winnow::stream::{LocatingSlice, Location};
 use winnow::token::take;
 use winnow::{ModalResult, Parser};
 
-use crate::answer::{self, Dimensions, Format, Header, Row};
+use crate::answer::{self, Dimensions, Format, Header, Records, Row};
 use crate::hdf::data_object::{self, DataFormat, DataObject, DataObjectFlags};
 use crate::hdf::ohdr_message::{HeaderMessage, HeaderMessageKind, collect_all_messages};
 use crate::hdf::parser::{Input as Stream, State};
@@ -255,11 +255,13 @@ impl Reading {
             next: self.next as u64,
             entries: entries.len() as u64,
             rows,
-            data_space: data_space(&object.ds),
-            data_type: data_type(&object.dt),
-            link_info: link_info(&object.li),
-            group_info: group_info(&object.gi),
-            attribute_info: attribute_info(&object.ai),
+            records: Records {
+                data_space: data_space(&object.ds),
+                data_type: data_type(&object.dt),
+                link_info: link_info(&object.li),
+                group_info: group_info(&object.gi),
+                attribute_info: attribute_info(&object.ai),
+            },
             data: object.data,
         }
     }
@@ -300,7 +302,7 @@ fn data_space(ds: &data_object::DataSpace) -> answer::DataSpace {
     answer::DataSpace {
         dimensionality: ds.dimensionality.into(),
         flags: ds.flags.into(),
-        kind: ds.kind.map(u64::from),
+        kind: ds.kind.into(),
         sizes: dimensions(&ds.dimension_size),
         maxima: dimensions(&ds.dimension_max_size),
     }
@@ -311,18 +313,23 @@ fn data_type(dt: &data_object::DataType) -> answer::DataType {
         class_and_version: dt.class_and_version.into(),
         class_bit_field: dt.class_bit_field.into(),
         size: dt.size.into(),
-        list_size: dt.list_size.map(u64::from),
+        list_size: dt.list_size.into(),
         format: format(dt.data_fmt),
     }
 }
 
 fn format(format: Option<DataFormat>) -> Format {
     match format {
-        None => Format::None,
+        None => Format::default(),
         Some(DataFormat::Fixed {
             bit_offset,
             bit_precision,
-        }) => Format::Fixed([bit_offset.into(), bit_precision.into()]),
+        }) => Format {
+            kind: answer::FIXED,
+            bit_offset: bit_offset.into(),
+            bit_precision: bit_precision.into(),
+            ..Format::default()
+        },
         Some(DataFormat::Float {
             bit_offset,
             bit_precision,
@@ -331,35 +338,36 @@ fn format(format: Option<DataFormat>) -> Format {
             mantissa_location,
             mantissa_size,
             exponent_bias,
-        }) => Format::Float([
-            bit_offset.into(),
-            bit_precision.into(),
-            exponent_location.into(),
-            exponent_size.into(),
-            mantissa_location.into(),
-            mantissa_size.into(),
-            exponent_bias.into(),
-        ]),
+        }) => Format {
+            kind: answer::FLOAT,
+            bit_offset: bit_offset.into(),
+            bit_precision: bit_precision.into(),
+            exponent_location: exponent_location.into(),
+            exponent_size: exponent_size.into(),
+            mantissa_location: mantissa_location.into(),
+            mantissa_size: mantissa_size.into(),
+            exponent_bias: exponent_bias.into(),
+        },
     }
 }
 
 fn link_info(li: &data_object::LinkInfo) -> answer::LinkInfo {
     answer::LinkInfo {
         flags: li.flags.into(),
-        maximum_creation_index: li.maximum_creation_index,
+        maximum_creation_index: li.maximum_creation_index.into(),
         fractal_heap_address: li.fractal_heap_address,
         address_btree_index: li.address_btree_index,
-        address_btree_order: li.address_btree_order,
+        address_btree_order: li.address_btree_order.into(),
     }
 }
 
 fn group_info(gi: &data_object::GroupInfo) -> answer::GroupInfo {
     answer::GroupInfo {
         flags: gi.flags.into(),
-        maximum_compact_value: gi.maximum_compact_value.map(u64::from),
-        minimum_dense_value: gi.minimum_dense_value.map(u64::from),
-        number_of_entries: gi.number_of_entries.map(u64::from),
-        length_of_entries: gi.length_of_entries.map(u64::from),
+        maximum_compact_value: gi.maximum_compact_value.into(),
+        minimum_dense_value: gi.minimum_dense_value.into(),
+        number_of_entries: gi.number_of_entries.into(),
+        length_of_entries: gi.length_of_entries.into(),
     }
 }
 

@@ -1,6 +1,6 @@
 //! The port behind one function, through the archive that dowringaf.h describes.
 
-use crate::answer::{self, Dimensions, Format, Header, Row};
+use crate::answer::{Header, Records, Row};
 use crate::input::Input;
 
 const ROW_WORDS: usize = 10;
@@ -12,81 +12,15 @@ const TABLE_TOO_SMALL: u64 = 24;
 
 /// The words of dowringaf.h.
 #[repr(C)]
-struct Optional {
-    present: u64,
-    value: u64,
-}
-
-#[repr(C)]
-struct Sizes {
-    count: u64,
-    sizes: [u64; 4],
-}
-
-#[repr(C)]
-struct DataSpace {
-    dimensionality: u64,
-    flags: u64,
-    kind: Optional,
-    size: Sizes,
-    maximum_size: Sizes,
-}
-
-#[repr(C)]
-struct DataType {
-    class_and_version: u64,
-    class_bit_field: u64,
-    size: u64,
-    list_size: Optional,
-    format_kind: u64,
-    format: [u64; 7],
-}
-
-#[repr(C)]
-struct LinkInfo {
-    flags: u64,
-    maximum_creation_index: Optional,
-    fractal_heap_address: u64,
-    address_btree_index: u64,
-    address_btree_order: Optional,
-}
-
-#[repr(C)]
-struct GroupInfo {
-    flags: u64,
-    maximum_compact_value: Optional,
-    minimum_dense_value: Optional,
-    number_of_entries: Optional,
-    length_of_entries: Optional,
-}
-
-#[repr(C)]
-struct AttributeInfo {
-    flags: u64,
-    maximum_creation_index: u64,
-    fractal_heap_address: u64,
-    attribute_name_btree: u64,
-    attribute_creation_order_btree: u64,
-}
-
-#[repr(C)]
-struct Part {
-    position: u64,
-    length: u64,
-}
-
-#[repr(C)]
+#[derive(Default)]
 struct Object {
     refused: u64,
     next: u64,
     entries: u64,
     rows: u64,
-    data_space: DataSpace,
-    data_type: DataType,
-    link_info: LinkInfo,
-    group_info: GroupInfo,
-    attribute_info: AttributeInfo,
-    data: Part,
+    records: Records,
+    data_position: u64,
+    data_length: u64,
 }
 
 unsafe extern "C" {
@@ -99,7 +33,8 @@ unsafe extern "C" {
         end_of_file: u64,
         table: *mut u64,
         table_words: usize,
-    ) -> Object;
+        object: *mut Object,
+    );
 }
 
 pub enum Outcome {
@@ -108,9 +43,10 @@ pub enum Outcome {
     Refused(u64),
 }
 
-/// The port with the table that it is lent.
+/// The port with the table and the object that it is lent.
 pub struct Port {
     table: Vec<u64>,
+    object: Object,
 }
 
 impl Default for Port {
@@ -124,18 +60,21 @@ impl Port {
     pub fn lending(rows: usize) -> Port {
         Port {
             table: vec![0; rows * ROW_WORDS],
+            object: Object::default(),
         }
     }
 
-    /// The port's answer, first with few rows, and where those do not do with all. The table comes
-    /// as the call before left it, and its words after the last row must be zero.
+    /// The port's answer, first with few rows, and where those do not do with all. The table and the
+    /// object come as the call before left them, and the table's words after the last row must be
+    /// zero.
     pub fn answer(&mut self, input: &Input) -> Outcome {
         let mut words = self.table.len().min(FEW_ROWS * ROW_WORDS);
-        let mut object = call(input, &mut self.table[..words]);
-        if object.refused == TABLE_TOO_SMALL {
+        self.call(input, words);
+        if self.object.refused == TABLE_TOO_SMALL {
             words = self.table.len();
-            object = call(input, &mut self.table);
+            self.call(input, words);
         }
+        let object = &self.object;
         let unused = &self.table[object.rows as usize * ROW_WORDS..words];
         assert!(unused.iter().all(|word| *word == 0), "unused rows are zero");
         if object.refused != 0 {
@@ -147,25 +86,28 @@ impl Port {
     /// The call alone, over the whole table: the position after the header and the rows filled, or
     /// nothing where it refuses.
     pub fn data_object(&mut self, input: &Input) -> Option<(u64, u64)> {
-        let object = call(input, &mut self.table);
-        (object.refused == 0).then_some((object.next, object.rows))
+        self.call(input, self.table.len());
+        (self.object.refused == 0).then_some((self.object.next, self.object.rows))
     }
-}
 
-fn call(input: &Input, table: &mut [u64]) -> Object {
-    // The pointers come from slices with their lengths, the table is borrowed alone, and the
-    // function keeps neither.
-    unsafe {
-        dowringaf_data_object(
-            input.file.as_ptr(),
-            input.file.len(),
-            input.position,
-            input.offset_width.into(),
-            input.length_width.into(),
-            input.end_of_file,
-            table.as_mut_ptr(),
-            table.len(),
-        )
+    /// The call, over the first words of the table.
+    fn call(&mut self, input: &Input, words: usize) {
+        let table = &mut self.table[..words];
+        // The pointers come from slices with their lengths, the table and the object are borrowed
+        // alone, and the function keeps none of them.
+        unsafe {
+            dowringaf_data_object(
+                input.file.as_ptr(),
+                input.file.len(),
+                input.position,
+                input.offset_width.into(),
+                input.length_width.into(),
+                input.end_of_file,
+                table.as_mut_ptr(),
+                table.len(),
+                &mut self.object,
+            );
+        }
     }
 }
 
@@ -176,12 +118,8 @@ impl Object {
             next: self.next,
             entries: self.entries,
             rows: rows.map(|words| row(file, words)).collect(),
-            data_space: self.data_space.answer(),
-            data_type: self.data_type.answer(),
-            link_info: self.link_info.answer(),
-            group_info: self.group_info.answer(),
-            attribute_info: self.attribute_info.answer(),
-            data: bytes(file, self.data.position, self.data.length),
+            records: self.records.clone(),
+            data: bytes(file, self.data_position, self.data_length),
         }
     }
 }
@@ -201,83 +139,4 @@ fn row(file: &[u8], words: &[u64]) -> Row {
 fn bytes(file: &[u8], position: u64, length: u64) -> Vec<u8> {
     let position = position as usize;
     file[position..position + length as usize].to_vec()
-}
-
-impl Optional {
-    fn answer(&self) -> Option<u64> {
-        (self.present != 0).then_some(self.value)
-    }
-}
-
-impl Sizes {
-    fn answer(&self) -> Dimensions {
-        Dimensions {
-            count: self.count,
-            sizes: self.sizes,
-        }
-    }
-}
-
-impl DataSpace {
-    fn answer(&self) -> answer::DataSpace {
-        answer::DataSpace {
-            dimensionality: self.dimensionality,
-            flags: self.flags,
-            kind: self.kind.answer(),
-            sizes: self.size.answer(),
-            maxima: self.maximum_size.answer(),
-        }
-    }
-}
-
-impl DataType {
-    fn answer(&self) -> answer::DataType {
-        answer::DataType {
-            class_and_version: self.class_and_version,
-            class_bit_field: self.class_bit_field,
-            size: self.size,
-            list_size: self.list_size.answer(),
-            format: match self.format_kind {
-                0 => Format::None,
-                1 => Format::Fixed([self.format[0], self.format[1]]),
-                _ => Format::Float(self.format),
-            },
-        }
-    }
-}
-
-impl LinkInfo {
-    fn answer(&self) -> answer::LinkInfo {
-        answer::LinkInfo {
-            flags: self.flags,
-            maximum_creation_index: self.maximum_creation_index.answer(),
-            fractal_heap_address: self.fractal_heap_address,
-            address_btree_index: self.address_btree_index,
-            address_btree_order: self.address_btree_order.answer(),
-        }
-    }
-}
-
-impl GroupInfo {
-    fn answer(&self) -> answer::GroupInfo {
-        answer::GroupInfo {
-            flags: self.flags,
-            maximum_compact_value: self.maximum_compact_value.answer(),
-            minimum_dense_value: self.minimum_dense_value.answer(),
-            number_of_entries: self.number_of_entries.answer(),
-            length_of_entries: self.length_of_entries.answer(),
-        }
-    }
-}
-
-impl AttributeInfo {
-    fn answer(&self) -> answer::AttributeInfo {
-        answer::AttributeInfo {
-            flags: self.flags,
-            maximum_creation_index: self.maximum_creation_index,
-            fractal_heap_address: self.fractal_heap_address,
-            attribute_name_btree: self.attribute_name_btree,
-            attribute_creation_order_btree: self.attribute_creation_order_btree,
-        }
-    }
 }

@@ -40,17 +40,20 @@ slice-aggregate-data-object c = search needs
 data-object-requires : tie.Need-data-object-requires
 data-object-requires c κs = search needs
 
+put-words-requires : tie.Need-put-words-requires
+put-words-requires c κs = search needs
+
 slice-aggregate-expect-report : tie.Need-slice-aggregate-expect-report
 slice-aggregate-expect-report c = search needs
 
 expect-report-requires : tie.Need-expect-report-requires
-expect-report-requires c κs = let h = few-rows _ (c .before .before .before .before .before .before .before .before .lead .given .0 .0) _ _ (c .before .before .data-object .ensures) in search needs
+expect-report-requires c κs = let h = few-rows _ (c .before .before .before .before .before .before .before .before .before .before .before .lead .given .0 .0) _ _ _ (c .before .before .before .before .before .data-object .ensures) (c .before .before .put-words .ensures) in search needs
 
 ends-requires : tie.Need-ends-requires
 ends-requires c κs = search needs
 
 returns-2 : tie.Need-returns-2
-returns-2 c = rw (← c .before .before .before .before .before .before .before .before .before .before .before .before .read-lead .ensures, c .before .before .before .before .before .before .before .before .before .before .lead .given .1, ← part-rest _ (c .before .before .before .before .before .before .before .before .before .before .before .before .before .before .before .args .input .now)) (answered _ (c .before .before .before .before .before .before .before .before .before .before .lead .given .0 .0) _ _ (c .before .before .before .before .data-object .ensures) _ _ _ (c .before .expect-report .ensures) (c .ends .ensures))
+returns-2 c = rw (← c .before .before .before .before .before .before .before .before .before .before .before .before .before .before .before .read-lead .ensures, c .before .before .before .before .before .before .before .before .before .before .before .before .before .lead .given .1, ← part-rest _ (c .before .before .before .before .before .before .before .before .before .before .before .before .before .before .before .before .before .before .args .input .now)) (answered _ (c .before .before .before .before .before .before .before .before .before .before .before .before .before .lead .given .0 .0) _ _ _ (c .before .before .before .before .before .before .before .data-object .ensures) (c .before .before .before .before .put-words .ensures) _ _ _ (c .before .expect-report .ensures) (c .ends .ensures))
 
 pub replays-spec : {M : Type 1} → statement M
 replays-spec =
@@ -67,6 +70,7 @@ replays-spec =
     cast-data-object-2
     slice-aggregate-data-object
     data-object-requires
+    put-words-requires
     slice-aggregate-expect-report
     expect-report-requires
     ends-requires

@@ -1,5 +1,5 @@
 use Rattle.test_report.specs.Report.{dataOf}
-use Rattle.matcher.specs.Laws.{then}
+use Rattle.test_report.specs.FollowsLaws.{then}
 use borrow.Author.Needs.{needs}
 use Rattle.test_report.proofs.expect_data.Statement.{statement}
 use Rattle.test_report.proofs.expect_data.Tie as tie

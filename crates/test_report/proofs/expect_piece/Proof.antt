@@ -1,5 +1,5 @@
 use Rattle.test_report.specs.Report.{pieceOf}
-use Rattle.matcher.specs.Laws.{then, follows-none}
+use Rattle.test_report.specs.FollowsLaws.{then, follows-none}
 use borrow.Author.Needs.{needs}
 use Rattle.test_report.proofs.expect_piece.Statement.{statement}
 use Rattle.test_report.proofs.expect_piece.Tie as tie

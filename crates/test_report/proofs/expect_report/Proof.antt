@@ -1,17 +1,12 @@
-use Rattle.test_report.specs.Laws.{report-read, report-refused}
-use Rattle.test_report.specs.Report.{refusedOf}
+use Rattle.test_report.specs.Report.{answerOf, refusedOf, reportOf}
+use Rattle.test_report.specs.FollowsLaws.{then}
+use borrow.Author.Tests.{ne-eqb, eq-eqb}
 use borrow.Author.Needs.{needs}
 use Rattle.test_report.proofs.expect_report.Statement.{statement}
 use Rattle.test_report.proofs.expect_report.Tie as tie
 
-enum-known-answer : tie.Need-enum-known-answer
-enum-known-answer c = search needs
-
-expect-answer-requires : tie.Need-expect-answer-requires
-expect-answer-requires c κs = search needs
-
-enum-told : tie.Need-enum-told
-enum-told c = search needs
+element-copy-out-if1 : tie.Need-element-copy-out-if1
+element-copy-out-if1 c = search needs
 
 slice-aggregate-expect-bytes : tie.Need-slice-aggregate-expect-bytes
 slice-aggregate-expect-bytes c = search needs
@@ -20,20 +15,55 @@ expect-bytes-requires : tie.Need-expect-bytes-requires
 expect-bytes-requires c κs = search needs
 
 returns : tie.Need-returns
-returns c = rw (report-read _ (c .before .before .before .before .before .before .before .args .object) _ (c .before .before .answer .given .1)) (c .expect-answer .ensures)
+unfolding reportOf refusedOf
+returns c = rw (ne-eqb _ _ (c .before .before .if1 .taken)) (c .expect-bytes .ensures)
+
+element-copy-out-expect-rows : tie.Need-element-copy-out-expect-rows
+element-copy-out-expect-rows c = search needs
+
+element-copy-out-t24 : tie.Need-element-copy-out-t24
+element-copy-out-t24 c = search needs
+
+slice-aggregate-expect-bytes-2 : tie.Need-slice-aggregate-expect-bytes-2
+slice-aggregate-expect-bytes-2 c = search needs
+
+expect-bytes-requires-2 : tie.Need-expect-bytes-requires-2
+expect-bytes-requires-2 c κs = search needs
+
+expect-words-requires : tie.Need-expect-words-requires
+expect-words-requires c κs = search needs
+
+element-copy-out-expect-rows-2 : tie.Need-element-copy-out-expect-rows-2
+element-copy-out-expect-rows-2 c = search needs
+
+expect-rows-requires : tie.Need-expect-rows-requires
+expect-rows-requires c κs = search needs
+
+expect-records-requires : tie.Need-expect-records-requires
+expect-records-requires c κs = search needs
+
+expect-data-requires : tie.Need-expect-data-requires
+expect-data-requires c κs = search needs
 
 returns-2 : tie.Need-returns-2
-unfolding refusedOf
-returns-2 c = rw (report-refused _ (c .before .before .before .before .before .before .before .args .object) _ (c .before .before .enum-told .given .1)) (c .expect-bytes .ensures)
+unfolding reportOf answerOf
+returns-2 c = rw (eq-eqb _ _ (c .before .before .before .before .before .before .before .before .before .if1 .left)) (then (c .before .before .before .before .before .expect-bytes2 .ensures) (then (c .before .before .before .before .expect-words .ensures) (then (c .before .before .expect-rows .ensures) (then (c .before .expect-records .ensures) (c .expect-data .ensures)))))
 
 pub expect-report-spec : {M : Type 1} → statement M
 expect-report-spec =
     tie.close
     (tie.spec
-    enum-known-answer
-    expect-answer-requires
-    enum-told
+    element-copy-out-if1
     slice-aggregate-expect-bytes
     expect-bytes-requires
     returns
+    element-copy-out-expect-rows
+    element-copy-out-t24
+    slice-aggregate-expect-bytes-2
+    expect-bytes-requires-2
+    expect-words-requires
+    element-copy-out-expect-rows-2
+    expect-rows-requires
+    expect-records-requires
+    expect-data-requires
     returns-2)

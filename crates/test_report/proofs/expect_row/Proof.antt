@@ -1,5 +1,5 @@
 use Rattle.test_report.specs.Report.{rowOf}
-use Rattle.matcher.specs.Laws.{then}
+use Rattle.test_report.specs.FollowsLaws.{then}
 use borrow.Author.Needs.{needs}
 use Rattle.test_report.proofs.expect_row.Statement.{statement}
 use Rattle.test_report.proofs.expect_row.Tie as tie

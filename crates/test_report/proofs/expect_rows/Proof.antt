@@ -1,11 +1,11 @@
 use borrow.Author.Needs.{needs}
-use Rattle.matcher.specs.Follows.{Follows}
+use Rattle.test_report.specs.Follows.{Follows}
 use Rattle.test_report.specs.Report.{rowsOf}
 use Rattle.test_report.specs.Laws.{rows-more, rows-none}
 use native.Mathlib.Omega.{arith}
 use mathlib.Core.Path.{_≡_}
 use Prim.Native.Nat.{_≤_, _-_}
-use Rattle.matcher.specs.Laws.{then, follows-none}
+use Rattle.test_report.specs.FollowsLaws.{then, follows-none}
 use Rattle.test_report.proofs.expect_rows.Statement.{statement}
 use Rattle.test_report.proofs.expect_rows.Tie as tie
 

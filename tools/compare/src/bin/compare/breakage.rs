@@ -1,7 +1,7 @@
 //! Wrong ports: each changes one thing in the port's answer, where it is there. The comparison must
 //! find every one of them.
 
-use sides::answer::{DataType, Format, Header, Row};
+use sides::answer::{Format, Header, Optional, Row};
 use sides::port::Outcome;
 
 pub struct Breakage {
@@ -31,32 +31,40 @@ pub const ALL: &[Breakage] = &[
     breakage("value-empty", |o| rows(o, value_empty)),
     breakage("data", |o| header(o, |h| h.data.truncate(7))),
     breakage("data-of-first-layout", |o| header(o, first_data)),
-    breakage("kind", |o| header(o, |h| h.data_space.kind = Some(0))),
+    breakage("kind", |o| {
+        header(o, |h| h.records.data_space.kind = Some(0u64).into())
+    }),
     breakage("fourth-size", |o| {
-        header(o, |h| h.data_space.sizes.sizes[3] = 0)
+        header(o, |h| h.records.data_space.sizes.sizes[3] = 0)
     }),
     breakage("size-at-its-limit", |o| header(o, size_limit)),
     breakage("maximum-of-all-ones", |o| header(o, all_ones)),
     breakage("class-bits", |o| {
-        header(o, |h| h.data_type.class_bit_field &= 0xffff)
+        header(o, |h| h.records.data_type.class_bit_field &= 0xffff)
     }),
-    breakage("list-size", |o| header(o, |h| h.data_type.list_size = None)),
+    breakage("list-size", |o| {
+        header(o, |h| h.records.data_type.list_size = absent())
+    }),
     breakage("list-format", |o| header(o, list_format)),
     breakage("bias", |o| header(o, bias)),
     breakage("link-order", |o| {
-        header(o, |h| h.link_info.address_btree_order = None)
+        header(o, |h| h.records.link_info.address_btree_order = absent())
     }),
     breakage("link-index", |o| header(o, link_index)),
     breakage("group-length", |o| {
-        header(o, |h| h.group_info.length_of_entries = None)
+        header(o, |h| h.records.group_info.length_of_entries = absent())
     }),
     breakage("attribute-index", |o| {
-        header(o, |h| h.attribute_info.maximum_creation_index &= 0xff)
+        header(o, |h| {
+            h.records.attribute_info.maximum_creation_index &= 0xff
+        })
     }),
     breakage("blocks-of-24-levels", |o| {
         refuse(o, |h| h.entries >= h.rows.len() as u64 + 25)
     }),
-    breakage("type-of-size-63", |o| refuse(o, |h| h.data_type.size == 63)),
+    breakage("type-of-size-63", |o| {
+        refuse(o, |h| h.records.data_type.size == 63)
+    }),
     breakage("refusal-of-ranges", |o| accept(o, 19)),
     breakage("refusal-of-levels", |o| accept(o, 21)),
     breakage("always-outside", |o| refuse_with(o, 14)),
@@ -116,29 +124,13 @@ fn refuse_with(outcome: Outcome, number: u64) -> Outcome {
 /// Accepts, as an empty header, what is refused with a number.
 fn accept(outcome: Outcome, number: u64) -> Outcome {
     match outcome {
-        Outcome::Refused(refused) if refused == number => Outcome::Read(Box::new(empty())),
+        Outcome::Refused(refused) if refused == number => Outcome::Read(Box::default()),
         other => other,
     }
 }
 
-fn empty() -> Header {
-    Header {
-        next: 0,
-        entries: 0,
-        rows: Vec::new(),
-        data_space: Default::default(),
-        data_type: DataType {
-            class_and_version: 0,
-            class_bit_field: 0,
-            size: 0,
-            list_size: None,
-            format: Format::None,
-        },
-        link_info: Default::default(),
-        group_info: Default::default(),
-        attribute_info: Default::default(),
-        data: Vec::new(),
-    }
+fn absent() -> Optional {
+    Optional::default()
 }
 
 fn few_blocks(header: &mut Header) {
@@ -175,13 +167,13 @@ fn first_data(header: &mut Header) {
 }
 
 fn size_limit(header: &mut Header) {
-    for size in &mut header.data_space.sizes.sizes {
+    for size in &mut header.records.data_space.sizes.sizes {
         *size = (*size).min(999_999);
     }
 }
 
 fn all_ones(header: &mut Header) {
-    for maximum in &mut header.data_space.maxima.sizes {
+    for maximum in &mut header.records.data_space.maxima.sizes {
         if *maximum == u64::MAX >> 8 {
             *maximum = u64::MAX;
         }
@@ -189,19 +181,17 @@ fn all_ones(header: &mut Header) {
 }
 
 fn list_format(header: &mut Header) {
-    if header.data_type.list_size.is_some() {
-        header.data_type.format = Format::None;
+    let data_type = &mut header.records.data_type;
+    if data_type.list_size != absent() {
+        data_type.format = Format::default();
     }
 }
 
 fn bias(header: &mut Header) {
-    if let Format::Float(fields) = &mut header.data_type.format {
-        fields[6] = fields[6].min(127);
-    }
+    let bias = &mut header.records.data_type.format.exponent_bias;
+    *bias = (*bias).min(127);
 }
 
 fn link_index(header: &mut Header) {
-    if let Some(index) = &mut header.link_info.maximum_creation_index {
-        *index &= 0xffff_ffff;
-    }
+    header.records.link_info.maximum_creation_index.value &= 0xffff_ffff;
 }

@@ -211,21 +211,19 @@ fn of_sizes(header: &Header, blocks: u64, flags: u8) -> Vec<Feature> {
 }
 
 fn of_records(header: &Header) -> Vec<Feature> {
-    let space = &header.data_space;
+    let records = &header.records;
     let mut features = vec![
         feature(
             "records",
-            format!(
-                "format {:?}",
-                std::mem::discriminant(&header.data_type.format)
-            ),
+            format!("format {}", records.data_type.format.kind),
         ),
         feature(
             "records",
-            format!("list size {:?}", header.data_type.list_size),
+            format!("list size {:?}", records.data_type.list_size),
         ),
         feature("records", format!("data {}", header.data.len())),
     ];
+    let space = &records.data_space;
     for size in space.sizes.sizes.iter().chain(&space.maxima.sizes) {
         let all_ones = size.trailing_ones() == 64 - size.leading_zeros();
         if all_ones || [999_999, 1_000_000].contains(size) {

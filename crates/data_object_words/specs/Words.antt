@@ -1,0 +1,119 @@
+-- The words of a decoded object header: each case of its answer has its number and its values, and each record its fields in order.
+-- Assumes nothing: these are definitions.
+use Prim.Native.Nat.{ℕ}
+use mathlib.Core.List.{List, [], _∷_, _++_}
+use lib.ListN.{getD}
+use Rattle.records.specs.Refusals.{refusalNumber}
+use Rattle.records.specs.declared.OptionU8.{OptionU8}
+use Rattle.records.specs.declared.OptionU8.the-variants as options8
+use Rattle.records.specs.declared.OptionU16.{OptionU16}
+use Rattle.records.specs.declared.OptionU16.the-variants as options16
+use Rattle.records.specs.declared.OptionU32.{OptionU32}
+use Rattle.records.specs.declared.OptionU32.the-variants as options32
+use Rattle.records.specs.declared.OptionU64.{OptionU64}
+use Rattle.records.specs.declared.OptionU64.the-variants as options64
+use Rattle.records.specs.declared.DataFormat.{DataFormat}
+use Rattle.records.specs.declared.DataFormat.the-variants as formats
+use Rattle.records.specs.declared.OptionDataFormat.{OptionDataFormat}
+use Rattle.records.specs.declared.OptionDataFormat.the-variants as optionFormats
+use Rattle.records.specs.declared.Dimensions.{Dimensions}
+use Rattle.records.specs.declared.DataSpace.{DataSpace}
+use Rattle.records.specs.declared.DataType.{DataType}
+use Rattle.records.specs.declared.LinkInfo.{LinkInfo}
+use Rattle.records.specs.declared.GroupInfo.{GroupInfo}
+use Rattle.records.specs.declared.AttributeInfo.{AttributeInfo}
+use Rattle.records.specs.declared.Part.{Part}
+use Rattle.data_object.specs.declared.Answer.{Answer}
+use Rattle.data_object.specs.declared.Answer.the-variants as answers
+use Rattle.data_object.specs.declared.DataObject.{DataObject}
+
+-- a field that may be absent, as one of 64 bits
+abbrev pub wide8 : OptionU8 → OptionU64
+wide8 options8.None = options64.None
+wide8 (options8.Some v) = options64.Some v
+
+abbrev pub wide16 : OptionU16 → OptionU64
+wide16 options16.None = options64.None
+wide16 (options16.Some v) = options64.Some v
+
+abbrev pub wide32 : OptionU32 → OptionU64
+wide32 options32.None = options64.None
+wide32 (options32.Some v) = options64.Some v
+
+abbrev pub present : OptionU64 → ℕ
+present options64.None = 0
+present (options64.Some v) = 1
+
+abbrev pub value : OptionU64 → ℕ
+value options64.None = 0
+value (options64.Some v) = v
+
+-- a field that a record has: 1 and its value; one that it lacks: 0 and 0
+abbrev pub optionalWords : OptionU64 → List ℕ
+optionalWords field = present field ∷ value field ∷ []
+
+-- the count and the four places of sizes
+abbrev pub dimensionsWords : Dimensions → List ℕ
+dimensionsWords d = d .count ∷ getD (d .sizes) 0 0 ∷ getD (d .sizes) 1 0 ∷ getD (d .sizes) 2 0 ∷ getD (d .sizes) 3 0 ∷ []
+
+abbrev pub dataSpaceWords : DataSpace → List ℕ
+dataSpaceWords s =
+    s .dimensionality
+    ∷ s .flags
+    ∷ (optionalWords (wide8 (s .kind)) ++ (dimensionsWords (s .«dimension_size») ++ dimensionsWords (s .«dimension_max_size»)))
+
+-- the kind, 1 for fixed and 2 for float, and its fields; those that it lacks are 0
+abbrev pub knownFormatWords : DataFormat → List ℕ
+knownFormatWords (formats.Fixed bit-offset bit-precision) = 1 ∷ bit-offset ∷ bit-precision ∷ 0 ∷ 0 ∷ 0 ∷ 0 ∷ 0 ∷ []
+knownFormatWords (formats.Float bit-offset bit-precision exponent-location exponent-size mantissa-location mantissa-size exponent-bias) =
+    2 ∷ bit-offset ∷ bit-precision ∷ exponent-location ∷ exponent-size ∷ mantissa-location ∷ mantissa-size ∷ exponent-bias ∷ []
+
+-- 0 is no format
+abbrev pub formatWords : OptionDataFormat → List ℕ
+formatWords optionFormats.None = 0 ∷ 0 ∷ 0 ∷ 0 ∷ 0 ∷ 0 ∷ 0 ∷ 0 ∷ []
+formatWords (optionFormats.Some f) = knownFormatWords f
+
+abbrev pub dataTypeWords : DataType → List ℕ
+dataTypeWords t =
+    t .«class_and_version»
+    ∷ t .«class_bit_field»
+    ∷ t .size
+    ∷ (optionalWords (wide32 (t .«list_size»)) ++ formatWords (t .«data_fmt»))
+
+abbrev pub linkInfoWords : LinkInfo → List ℕ
+linkInfoWords l =
+    l .flags
+    ∷ (optionalWords (l .«maximum_creation_index»)
+    ++ (l .«fractal_heap_address» ∷ l .«address_btree_index» ∷ optionalWords (l .«address_btree_order»)))
+
+abbrev pub groupInfoWords : GroupInfo → List ℕ
+groupInfoWords g =
+    g .flags
+    ∷ (optionalWords (wide16 (g .«maximum_compact_value»))
+    ++ (optionalWords (wide16 (g .«minimum_dense_value»))
+    ++ (optionalWords (wide16 (g .«number_of_entries»)) ++ optionalWords (wide16 (g .«length_of_entries»)))))
+
+abbrev pub attributeInfoWords : AttributeInfo → List ℕ
+attributeInfoWords a =
+    a .flags
+    ∷ a .«maximum_creation_index»
+    ∷ a .«fractal_heap_address»
+    ∷ a .«attribute_name_btree»
+    ∷ a .«attribute_creation_order_btree»
+    ∷ []
+
+abbrev pub dataWords : Part → List ℕ
+dataWords p = p .position ∷ p .length ∷ []
+
+-- 0, next position and entries, or the refusal's number and zeros
+abbrev pub answerWords : Answer → List ℕ
+answerWords (answers.Read next entries) = 0 ∷ next ∷ entries ∷ []
+answerWords (answers.Refused r) = refusalNumber r ∷ 0 ∷ 0 ∷ []
+
+abbrev pub wordsOf : DataObject → List ℕ
+wordsOf o =
+    answerWords (o .answer)
+    ++ (o .rows
+    ∷ (dataSpaceWords (o .ds)
+    ++ (dataTypeWords (o .dt)
+    ++ (linkInfoWords (o .li) ++ (groupInfoWords (o .gi) ++ (attributeInfoWords (o .ai) ++ dataWords (o .«data»)))))))
