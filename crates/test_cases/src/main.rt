@@ -2,10 +2,11 @@
 // their reports, names each that fails, and says how many of each it ran.
 use test_replayer::Against;
 use test_runner::run_file;
+use test_runner::tell;
 
 fn run_files(buf: &mut [u8]) {
-    run_file(Against::Listing, b"cases", buf);
-    run_file(Against::Report, b"messages", buf);
+    tell(b"cases", run_file(Against::Listing, b"cases", buf));
+    tell(b"messages", run_file(Against::Report, b"messages", buf));
 }
 
 fn main() {

@@ -7,7 +7,7 @@ use test_replayer::passes;
 ghost use mathlib.Core.Path.{_≡_};
 ghost use Prim.Native.Nat.{_<_, _≤_};
 ghost use Rattle.test_replayer.specs.Passes.{Says};
-ghost use Rattle.test_runner.specs.Cases.{Ends, CaseOut, counted, StepIs, Tallied, Loads};
+ghost use Rattle.test_runner.specs.Cases.{Ends, CaseOut, counted, StepIs, Tallied, Loads, RunOf};
 
 // Where a part ends; or it leaves the file.
 pub enum PartEnd {
@@ -43,6 +43,13 @@ pub struct Summary {
 // How many bytes a file has; or it is as long as the buffer or longer; or it was not read.
 pub enum Loaded {
     Whole(usize),
+    TooLong,
+    Failed,
+}
+
+// What the run of a file came to; or why it was not run.
+pub enum FileRun {
+    Ran(Summary),
     TooLong,
     Failed,
 }
@@ -171,8 +178,18 @@ fn load(path: &[u8], buf: &mut [u8]) -> Loaded
     Loaded::Whole(n)
 }
 
-// Writes the last line of a run.
-fn tell_end(s: Summary) {
+// Runs the cases of the file at a path, by way of a buffer that is longer than it.
+pub fn run_file(against: Against, path: &[u8], buf: &mut [u8]) -> FileRun
+    ensures { λ r. ⌜ RunOf (Says against) (now (buf .exit)) r ⌝ }
+{
+    match load(path, buf) {
+        Loaded::Whole(n) => FileRun::Ran(run(against, &buf[..n])),
+        Loaded::TooLong => FileRun::TooLong,
+        Loaded::Failed => FileRun::Failed,
+    }
+}
+
+fn tell_count(s: Summary) {
     io::print_decimal(1, s.run);
     io::write_all(1, b" run, ");
     io::print_decimal(1, s.failed);
@@ -188,12 +205,11 @@ fn tell_not_run(path: &[u8], why: &[u8]) {
     io::write_all(1, why);
 }
 
-// Runs the file at a path by way of a buffer that is longer, and tells the count, or that the file
-// was not run. It yields nothing, and no contract speaks of what is written.
-pub fn run_file(against: Against, path: &[u8], buf: &mut [u8]) {
-    match load(path, buf) {
-        Loaded::Whole(n) => tell_end(run(against, &buf[..n])),
-        Loaded::TooLong => tell_not_run(path, b" does not fit\n"),
-        Loaded::Failed => tell_not_run(path, b" was not read\n"),
+// Writes the last line of a run. It yields nothing, and no contract speaks of what is written.
+pub fn tell(path: &[u8], outcome: FileRun) {
+    match outcome {
+        FileRun::Ran(s) => tell_count(s),
+        FileRun::TooLong => tell_not_run(path, b" does not fit\n"),
+        FileRun::Failed => tell_not_run(path, b" was not read\n"),
     }
 }
