@@ -1,11 +1,15 @@
-// Runs the cases of the file `cases`, names each that fails, and says how many it ran.
-fn run_cases(buf: &mut [u8]) {
-    let n = test_file::load(b"cases", buf);
-    let s = test_runner::run(test_runner::Against::Listing, &buf[..n]);
-    test_file::tell_end(s.run, s.failed, s.whole);
+// Runs the cases of the file `cases` against their listings and those of the file `messages` against
+// their reports, names each that fails, and says how many of each it ran.
+use test_replayer::Against;
+use test_runner::run_file;
+use test_runner::tell;
+
+fn run_files(buf: &mut [u8]) {
+    tell(b"cases", run_file(Against::Listing, b"cases", buf));
+    tell(b"messages", run_file(Against::Report, b"messages", buf));
 }
 
 fn main() {
     let mut buf = [0u8; 1048576];
-    run_cases(&mut buf);
+    run_files(&mut buf);
 }

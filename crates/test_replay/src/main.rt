@@ -1,8 +1,10 @@
 // Replays the answers of the file `answers`, names each that fails, and says how many it ran.
+use test_replayer::Against;
+use test_runner::run_file;
+use test_runner::tell;
+
 fn replay_answers(buf: &mut [u8]) {
-    let n = test_file::load(b"answers", buf);
-    let s = test_runner::run(test_runner::Against::Report, &buf[..n]);
-    test_file::tell_end(s.run, s.failed, s.whole);
+    tell(b"answers", run_file(Against::Report, b"answers", buf));
 }
 
 fn main() {

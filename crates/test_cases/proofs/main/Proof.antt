@@ -5,14 +5,14 @@ use borrow.Author.Needs.{needs}
 use Rattle.test_cases.proofs.main.Statement.{statement}
 use Rattle.test_cases.proofs.main.Tie as tie
 
-slice-aggregate-run-cases : tie.Need-slice-aggregate-run-cases
-slice-aggregate-run-cases c = sym (length-replicate {A = ℕ} 1048576 0)
+slice-aggregate-run-files : tie.Need-slice-aggregate-run-files
+slice-aggregate-run-files c = sym (length-replicate {A = ℕ} 1048576 0)
 
-run-cases-requires : tie.Need-run-cases-requires
-run-cases-requires c κs = search needs
+run-files-requires : tie.Need-run-files-requires
+run-files-requires c κs = search needs
 
 returns : tie.Need-returns
 returns c = search needs
 
 pub main-spec : {M : Type 1} → statement M
-main-spec = tie.close (tie.spec slice-aggregate-run-cases run-cases-requires returns)
+main-spec = tie.close (tie.spec slice-aggregate-run-files run-files-requires returns)

@@ -1,11 +1,11 @@
 use Prim.Native.Nat.{_-_}
 use native.Mathlib.Omega.{arith}
 use lib.ListN.{length}
-use Rattle.test_file.specs.declared.Step.the-variants as steps
-use Rattle.test_file.specs.Cases.{StepIs}
-use Rattle.test_file.specs.Laws.{case-order}
-use Rattle.test_file.specs.Runs.{Going, going-begins, going-on, tallied-whole, tallied-cut}
-use Rattle.test_runner.specs.Runs.{Says}
+use Rattle.test_runner.specs.declared.Step.the-variants as steps
+use Rattle.test_runner.specs.Cases.{StepIs}
+use Rattle.test_runner.specs.Laws.{case-order}
+use Rattle.test_runner.specs.Runs.{Going, going-begins, going-on, tallied-whole, tallied-cut}
+use Rattle.test_replayer.specs.Passes.{Says}
 use borrow.Author.Needs.{needs}
 use Rattle.test_runner.proofs.run.Statement.{statement}
 use Rattle.test_runner.proofs.run.Tie as tie

@@ -1,5 +1,5 @@
-use Rattle.test_file.specs.Cases.{CaseIs}
-use Rattle.test_file.specs.Laws.{case-order, input-is, expected-is}
+use Rattle.test_runner.specs.Cases.{CaseIs}
+use Rattle.test_runner.specs.Laws.{case-order, input-is, expected-is}
 use borrow.Author.Needs.{needs}
 use Rattle.test_runner.proofs.run_case.Statement.{statement}
 use Rattle.test_runner.proofs.run_case.Tie as tie

@@ -6,14 +6,18 @@ use mathlib.Core.Bool.{Bool, true, false}
 use mathlib.Core.List.{List}
 use lib.ListN.{length, take, drop}
 use Rattle.format.specs.Bytes.{le}
-use Rattle.test_file.specs.declared.PartEnd.{PartEnd}
-use Rattle.test_file.specs.declared.PartEnd.the-variants as ends
-use Rattle.test_file.specs.declared.Case.{Case}
-use Rattle.test_file.specs.declared.CaseRead.{CaseRead}
-use Rattle.test_file.specs.declared.CaseRead.the-variants as cases
-use Rattle.test_file.specs.declared.Step.{Step}
-use Rattle.test_file.specs.declared.Step.the-variants as steps
-use Rattle.test_file.specs.declared.Summary.{Summary}
+use Rattle.test_runner.specs.declared.PartEnd.{PartEnd}
+use Rattle.test_runner.specs.declared.PartEnd.the-variants as ends
+use Rattle.test_runner.specs.declared.Case.{Case}
+use Rattle.test_runner.specs.declared.CaseRead.{CaseRead}
+use Rattle.test_runner.specs.declared.CaseRead.the-variants as cases
+use Rattle.test_runner.specs.declared.Step.{Step}
+use Rattle.test_runner.specs.declared.Step.the-variants as steps
+use Rattle.test_runner.specs.declared.Summary.{Summary}
+use Rattle.test_runner.specs.declared.Loaded.{Loaded}
+use Rattle.test_runner.specs.declared.Loaded.the-variants as loads
+use Rattle.test_runner.specs.declared.FileRun.{FileRun}
+use Rattle.test_runner.specs.declared.FileRun.the-variants as runs
 
 -- the end of the part at a position: its length in 4 bytes, and its bytes
 unfoldable pub partEnd : List ℕ → ℕ → ℕ
@@ -76,3 +80,21 @@ module _ (P : List ℕ → List ℕ → Bool → Type 0) (s : List ℕ) where
     pub ended :
         ((stop ≡ length s) × (r ≡ tally))
         ⊎ ((stop < length s) × (length s < caseEnd s stop) × (r ≡ record { run = tally .run; failed = tally .failed; whole = false }))
+
+-- a file that was loaded leaves a byte of the buffer free
+abbrev pub Loads : Loaded → List ℕ → Type 0
+Loads (loads.Whole n) buf = n < length buf
+Loads loads.TooLong buf = Unit {0}
+Loads loads.Failed buf = Unit {0}
+
+-- the run of a file that was loaded is that of the bytes at the start of the buffer
+module _ (P : List ℕ → List ℕ → Bool → Type 0) (buf : List ℕ) where
+  pub record LoadedRun (r : Summary) : Type 0 where
+    pub count : ℕ
+    pub free : count < length buf
+    pub tallied : Tallied P (take count buf) r
+
+  abbrev pub RunOf : FileRun → Type 0
+  RunOf (runs.Ran r) = LoadedRun r
+  RunOf runs.TooLong = Unit {0}
+  RunOf runs.Failed = Unit {0}

@@ -1,7 +1,7 @@
-use Rattle.test_file.specs.Laws.{cut-name, cut-input, cut-expected, case-is}
+use Rattle.test_runner.specs.Laws.{cut-name, cut-input, cut-expected, case-is}
 use borrow.Author.Needs.{needs}
-use Rattle.test_file.proofs.case_at.Statement.{statement}
-use Rattle.test_file.proofs.case_at.Tie as tie
+use Rattle.test_runner.proofs.case_at.Statement.{statement}
+use Rattle.test_runner.proofs.case_at.Tie as tie
 
 part-end-requires : tie.Need-part-end-requires
 part-end-requires c κs = search needs

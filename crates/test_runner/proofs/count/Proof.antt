@@ -1,6 +1,6 @@
 use borrow.Author.Needs.{needs}
-use Rattle.test_file.proofs.count.Statement.{statement}
-use Rattle.test_file.proofs.count.Tie as tie
+use Rattle.test_runner.proofs.count.Statement.{statement}
+use Rattle.test_runner.proofs.count.Tie as tie
 
 add-t5 : tie.Need-add-t5
 add-t5 c = search needs

@@ -1,7 +1,7 @@
 use mathlib.Core.Path.{sym, _∙_}
 use borrow.Author.Needs.{needs}
-use Rattle.test_runner.proofs.lists.Statement.{statement}
-use Rattle.test_runner.proofs.lists.Tie as tie
+use Rattle.test_replayer.proofs.lists.Statement.{statement}
+use Rattle.test_replayer.proofs.lists.Tie as tie
 
 list-requires : tie.Need-list-requires
 list-requires c κs = search needs

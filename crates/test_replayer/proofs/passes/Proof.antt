@@ -1,6 +1,6 @@
 use borrow.Author.Needs.{needs}
-use Rattle.test_runner.proofs.passes.Statement.{statement}
-use Rattle.test_runner.proofs.passes.Tie as tie
+use Rattle.test_replayer.proofs.passes.Statement.{statement}
+use Rattle.test_replayer.proofs.passes.Tie as tie
 
 enum-told : tie.Need-enum-told
 enum-told c = search needs

@@ -7,8 +7,8 @@ use lib.ListN.{length, take, drop}
 use Rattle.format.specs.Bytes.{le}
 use Rattle.format.specs.Format.{done, number, found, refused, read}
 use Rattle.format.specs.Laws.{sound, none}
-use Rattle.test_file.specs.declared.Case.{Case}
-use Rattle.test_file.specs.Cases.{partEnd, partOf, inputAt, expectedAt, caseEnd, CaseIs}
+use Rattle.test_runner.specs.declared.Case.{Case}
+use Rattle.test_runner.specs.Cases.{partEnd, partOf, inputAt, expectedAt, caseEnd, CaseIs}
 
 module _ (s : List ℕ) (at : ℕ) where
   pub part-later : at + 4 ≤ partEnd s at

@@ -1,10 +1,10 @@
 use mathlib.Core.Path.{sym, ap, _∙_}
 use native.Mathlib.Omega.{arith}
 use Rattle.helpers.specs.Answers.{u32Out}
-use Rattle.test_file.specs.Laws.{length-read, length-short}
+use Rattle.test_runner.specs.Laws.{length-read, length-short}
 use borrow.Author.Needs.{needs}
-use Rattle.test_file.proofs.part_end.Statement.{statement}
-use Rattle.test_file.proofs.part_end.Tie as tie
+use Rattle.test_runner.proofs.part_end.Statement.{statement}
+use Rattle.test_runner.proofs.part_end.Tie as tie
 
 le-u32-requires : tie.Need-le-u32-requires
 le-u32-requires c κs = search needs
