@@ -4,10 +4,12 @@ use mathlib.Core.Path.{_≡_, sym, ap, _∙_}
 use mathlib.Core.List.{List}
 use Rattle.format.specs.Laws.{never}
 use Rattle.records.specs.RefusalLaws.{refusal-unique}
+use Rattle.row.specs.Clearing.{table}
+use Rattle.parser.specs.States.{stateFor}
 use Rattle.grammar.specs.Grammar.{Item}
-use Rattle.grammar.specs.Table.{messagesOf}
-use Rattle.data_object_records.specs.Headers.{Wins, winsOf, stateFor}
-use Rattle.data_object_records.specs.HeaderLaws.{tableOf, header-unique}
+use Rattle.grammar.specs.Table.{messagesOf, rowsOf}
+use Rattle.data_object_header.specs.HeaderLaws.{header-unique}
+use Rattle.data_object_winners.specs.Wins.{winsOf}
 use Rattle.data_object.specs.declared.Answer.{Answer}
 use Rattle.data_object.specs.declared.Answer.the-variants as answers
 use Rattle.data_object.specs.declared.DataObject.{DataObject}
@@ -20,19 +22,19 @@ answer-unique (answers.Refused x) (answers.Read q l) e = never e
 answer-unique (answers.Refused x) (answers.Refused y) e = ap answers.Refused (refusal-unique x y (cc))
 
 module _ (file : List ℕ) (offsets lengths end at n : ℕ) where
-  meant-unique : (a b : Answer) {v w : Wins} {t u : List ℕ} → Meant file offsets lengths end at n a v t → Meant file offsets lengths end at n b w u → (v ≡ w) × (t ≡ u)
-  meant-unique (answers.Read p k) (answers.Read q l) m o =
-      let same = header-unique file (stateFor offsets lengths end) at p q (m .items) (o .items) (m .readable .within .reading) (o .readable .within .reading) in (
-        m .records ∙ ap (λ (xs : List Item). winsOf (messagesOf xs)) (same .1) ∙ sym (o .records),
-        m .table ∙ ap (tableOf n) (same .1) ∙ sym (o .table),
+  meant-unique : (a b : Answer) (o o′ : DataObject) {t t′ : List ℕ} → Meant file offsets lengths end at n a o t → Meant file offsets lengths end at n b o′ t′ → (winsIn o ≡ winsIn o′) × (t ≡ t′)
+  meant-unique (answers.Read p k) (answers.Read q l) o o′ m m′ =
+      let same = header-unique file (stateFor offsets lengths end) at p q (m .items) (m′ .items) (m .readable .reading) (m′ .readable .reading) in (
+        m .records ∙ ap (λ (xs : List Item). winsOf (messagesOf xs)) (same .1) ∙ sym (m′ .records),
+        m .table ∙ ap (λ (xs : List Item). table n (rowsOf xs)) (same .1) ∙ sym (m′ .table),
       )
-  meant-unique (answers.Read p k) (answers.Refused y) m o = absurd (o .none p (m .items) (m .readable))
-  meant-unique (answers.Refused x) (answers.Read q l) m o = absurd (m .none q (o .items) (o .readable))
-  meant-unique (answers.Refused x) (answers.Refused y) m o = (m .records ∙ sym (o .records), m .table ∙ sym (o .table))
+  meant-unique (answers.Read p k) (answers.Refused y) o o′ m m′ = absurd (m′ .none p (m .items) (m .readable))
+  meant-unique (answers.Refused x) (answers.Read q l) o o′ m m′ = absurd (m .none q (m′ .items) (m′ .readable))
+  meant-unique (answers.Refused x) (answers.Refused y) o o′ m m′ = (m .records ∙ sym (m′ .records), m .table ∙ sym (m′ .table))
 
   pub decoded-unique : (o o′ : DataObject) (t t′ : List ℕ) → Decoded file offsets lengths end at n o t → Decoded file offsets lengths end at n o′ t′ → (o ≡ o′) × (t ≡ t′)
   decoded-unique o o′ t t′ d d′ =
       let a = answer-unique (o .answer) (o′ .answer) (d .answer ∙ sym (d′ .answer)) in
       let r = d .rows ∙ sym (d′ .rows) in
-      let m = meant-unique (o .answer) (o′ .answer) (d .meant) (d′ .meant) in
+      let m = meant-unique (o .answer) (o′ .answer) o o′ (d .meant) (d′ .meant) in
       (λ i. record { answer = a i; rows = r i; ds = m .0 i .ds; dt = m .0 i .dt; li = m .0 i .li; gi = m .0 i .gi; ai = m .0 i .ai; «data» = m .0 i .«data» }, m .1)

@@ -8,7 +8,7 @@ use lib.Seq.{sets, sets-eq}
 use Rattle.records.specs.declared.DataFormat.the-variants as formats
 use Rattle.records.specs.declared.OptionDataFormat.{OptionDataFormat}
 use Rattle.records.specs.declared.OptionDataFormat.the-variants as optionFormats
-use Rattle.grammar.specs.TableLaws.{sets-append}
+use Rattle.row.specs.RowLaws.{sets-append}
 use Rattle.data_object.specs.declared.Answer.{Answer}
 use Rattle.data_object.specs.declared.Answer.the-variants as answers
 use Rattle.data_object.specs.declared.DataObject.{DataObject}

@@ -6,11 +6,10 @@ use native.Mathlib.Omega.{arith}
 use lib.ListN.{length, getD, replicate}
 use borrow.Author.Tests.{le-leb, lt-leb}
 use Rattle.records.specs.declared.Part.{Part}
-use Rattle.data_object_records.specs.Headers.{Wins}
+use Rattle.data_object_winners.specs.Wins.{Wins}
 use Rattle.data_object.specs.declared.Answer.{Answer}
 use Rattle.data_object.specs.declared.Answer.the-variants as answers
-use Rattle.data_object.specs.Decoded.{Meant, rowsIn, winsIn}
-use Rattle.data_object.specs.DecodedLaws.{walkedBy, listed}
+use Rattle.data_object.specs.Decoded.{Meant}
 use Rattle.firmware.specs.Words.{noPart, inWords}
 use Rattle.firmware.specs.Handed.{Handed, HandedPart}
 
@@ -33,27 +32,23 @@ module _ (file : List ℕ) (p : Part) where
 
 -- Of a header that is refused every word but the number is 0, and so is the whole table.
 module _ {file : List ℕ} {offsets lengths end at n : ℕ} {t w : List ℕ} (h : Handed file offsets lengths end at n t w) where
-  rows-listed : h .object .rows ≡ rowsIn (walkedBy (h .object .answer) (h .object .rows) t)
-  rows-listed = rw (listed file offsets lengths end at n (h .object) t (h .decoded)) (h .decoded .rows)
-
-  by-answer : (a : Answer) → h .object .answer ≡ a → Meant file offsets lengths end at n a (winsIn (h .object)) t → (getD w 0 0 ≡ 0 → ⊥)
+  by-answer : (a : Answer) → h .object .answer ≡ a → Meant file offsets lengths end at n a (h .object) t → (getD w 0 0 ≡ 0 → ⊥)
       → (w ≡ getD w 0 0 ∷ replicate 53 0) × (t ≡ replicate n 0)
   by-answer (answers.Read next count) e m f = absurd (f (rw (h .words, e)))
-  by-answer (answers.Refused x) e m f =
-      let none : h .object .rows ≡ 0 = rows-listed ∙ ap (λ (a : Answer). rowsIn (walkedBy a (h .object .rows) t)) e in (
-        rw (
-          h .words,
-          e,
-          none,
-          ap (λ (v : Wins). v .ds) (m .records),
-          ap (λ (v : Wins). v .dt) (m .records),
-          ap (λ (v : Wins). v .li) (m .records),
-          ap (λ (v : Wins). v .gi) (m .records),
-          ap (λ (v : Wins). v .ai) (m .records),
-          ap (λ (v : Wins). v .«data») (m .records),
-        ),
-        m .table,
-      )
+  by-answer (answers.Refused x) e m f = (
+    rw (
+      h .words,
+      e,
+      m .rows,
+      ap (λ (v : Wins). v .ds) (m .records),
+      ap (λ (v : Wins). v .dt) (m .records),
+      ap (λ (v : Wins). v .li) (m .records),
+      ap (λ (v : Wins). v .gi) (m .records),
+      ap (λ (v : Wins). v .ai) (m .records),
+      ap (λ (v : Wins). v .«data») (m .records),
+    ),
+    m .table,
+  )
 
   pub refused-words : (getD w 0 0 ≡ 0 → ⊥) → (w ≡ getD w 0 0 ∷ replicate 53 0) × (t ≡ replicate n 0)
   refused-words f = by-answer (h .object .answer) refl (h .decoded .meant) f

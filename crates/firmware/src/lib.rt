@@ -6,7 +6,7 @@ use listing::list;
 use lookup::LookupAnswer;
 use lookup::lookup;
 ghost use mathlib.Core.Path.{_≡_};
-ghost use lib.ListN.{length, take};
+ghost use lib.ListN.{length, take, drop};
 ghost use Rattle.listing.specs.Listing.{listingOf, Counts};
 ghost use Rattle.firmware.specs.Words.{foundRow, lookupOf};
 ghost use Rattle.firmware.specs.Handed.{Handed, HandedRow, HandedPart};
@@ -112,11 +112,13 @@ pub extern "C" fn dowringaf_layout_data(file: &[u8], position: usize, length: us
     }
 }
 
-// The listing of an input, put at the start of out; the answer is its length.
+// The listing of an input, put at the start of out; the answer is its length, and what stands behind
+// it is left alone.
 #[no_mangle]
 pub extern "C" fn dowringaf_list(input: &[u8], out: &mut [u8; 98304]) -> usize
     ensures { λ r. ⌜ Counts r (now (out .exit)) ⌝ }
     ensures { λ r. ⌜ take r (now (out .exit)) ≡ listingOf (now (input .entry)) ⌝ }
+    ensures { λ r. ⌜ drop r (now (out .exit)) ≡ drop r (now (out .entry)) ⌝ }
 {
     list(input, out)
 }

@@ -7,7 +7,7 @@ use Rattle.records.specs.Refusals.{refusalNumber}
 use Rattle.records.specs.declared.Refusal.{Refusal}
 use Rattle.records.specs.declared.Refusal.the-variants as refusals
 
--- each refusal at its number; no refusal has the number 0
+-- each refusal at its number; no refusal has the numbers 0 and 25 to 27
 inOrder : List Refusal
 inOrder =
     refusals.Width
@@ -35,6 +35,10 @@ inOrder =
     ∷ refusals.TypeLevel
     ∷ refusals.Entries
     ∷ refusals.Table
+    ∷ refusals.Width
+    ∷ refusals.Width
+    ∷ refusals.Width
+    ∷ refusals.Checksum
     ∷ []
 
 given-back : (r : Refusal) → getD inOrder (refusalNumber r) refusals.Width ≡ r
@@ -63,6 +67,7 @@ given-back refusals.BlockLevel = refl
 given-back refusals.TypeLevel = refl
 given-back refusals.Entries = refl
 given-back refusals.Table = refl
+given-back refusals.Checksum = refl
 
 pub refusal-unique : (x y : Refusal) → refusalNumber x ≡ refusalNumber y → x ≡ y
 refusal-unique x y e = sym (given-back x) ∙ ap (λ (n : ℕ). getD inOrder n refusals.Width) e ∙ given-back y

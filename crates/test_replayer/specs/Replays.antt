@@ -1,10 +1,11 @@
 -- What it says that a stored answer is given. Assumes nothing: these are definitions.
-use Prim.Native.Nat.{ℕ}
+use Prim.Native.Nat.{ℕ, _*_}
 use mathlib.Core.Path.{_≡_}
 use mathlib.Core.Bool.{Bool, true, false}
 use mathlib.Core.List.{List}
 use lib.ListN.{drop}
 use Rattle.format.specs.Format.{Out, found, refused, read}
+use Rattle.row.specs.Rows.{rowWords}
 use Rattle.data_object.specs.declared.DataObject.{DataObject}
 use Rattle.data_object.specs.Decoded.{Decoded}
 use Rattle.data_object_words.specs.Words.{wordsOf}
@@ -16,7 +17,7 @@ use Rattle.test_report.specs.Report.{reportOf}
 pub record Answered (file : List ℕ) (l : Lead) (expected : List ℕ) (b : Bool) : Type 0 where
   pub object : DataObject
   pub table : List ℕ
-  pub decoded : Decoded file (l .offsets) (l .lengths) (l .«end_of_file») (l .position) 640 object table
+  pub decoded : Decoded file (l .offsets) (l .lengths) (l .«end_of_file») (l .position) (64 * rowWords) object table
   pub says : (b ≡ true → reportOf file table (wordsOf object) ≡ expected) × (reportOf file table (wordsOf object) ≡ expected → b ≡ true)
 
 -- what follows the lead bytes is the file; an input with fewer than the 18 lead bytes does not pass

@@ -1,8 +1,9 @@
 -- An input and expected bytes have one answer, since decoding has one report. Assumes nothing.
-use Prim.Native.Nat.{ℕ}
+use Prim.Native.Nat.{ℕ, _*_}
 use mathlib.Core.Path.{_≡_, refl, sym, ap, ap₂, _∙_}
 use mathlib.Core.Bool.{Bool, true, false}
 use mathlib.Core.List.{List}
+use Rattle.row.specs.Rows.{rowWords}
 use Rattle.data_object.specs.Unique.{decoded-unique}
 use Rattle.data_object_words.specs.Words.{wordsOf}
 use Rattle.listing.specs.declared.Lead.{Lead}
@@ -15,7 +16,7 @@ one-answer file l expected b b′ a a′ = go b b′ (λ h. a′ .says .1 (sym r
   where
     report : reportOf file (a .table) (wordsOf (a .object)) ≡ reportOf file (a′ .table) (wordsOf (a′ .object))
     report =
-        let same = decoded-unique file (l .offsets) (l .lengths) (l .«end_of_file») (l .position) 640 (a .object) (a′ .object) (a .table) (a′ .table) (a .decoded) (a′ .decoded) in
+        let same = decoded-unique file (l .offsets) (l .lengths) (l .«end_of_file») (l .position) (64 * rowWords) (a .object) (a′ .object) (a .table) (a′ .table) (a .decoded) (a′ .decoded) in
         ap₂ (reportOf file) (same .1) (ap wordsOf (same .0))
 
     go : (x y : Bool) → (x ≡ true → y ≡ true) → (y ≡ true → x ≡ true) → x ≡ y

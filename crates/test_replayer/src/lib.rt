@@ -4,6 +4,7 @@ use data_object_words::put_words;
 use listing::LeadRead;
 use listing::list;
 use listing::read_lead;
+use row::ROW_WORDS;
 use test_report::ends;
 use test_report::expect_report;
 ghost use Rattle.test_replayer.specs.Passes.{Lists, Says};
@@ -32,7 +33,7 @@ fn replays(input: &[u8], expected: &[u8]) -> bool
         return false;
     };
     let file = &input[start..];
-    let mut table = [0u64; 640];
+    let mut table = [0u64; 64 * ROW_WORDS];
     let object = data_object(
         file,
         lead.position,

@@ -1,21 +1,24 @@
 -- The report of a decoded header: its words and its table as lines of text. Assumes nothing: these are definitions.
 use Prim.Native.Nat.{ℕ, zero, suc, _+_, _-_}
-use mathlib.Core.Bool.{Bool, true}
+use mathlib.Core.Bool.{true, false}
 use mathlib.Core.List.{List, [], _∷_, _++_}
 use lib.ListN.{getD}
 use lib.Dec.{eqb}
 use Rattle.format.specs.Format.{pick}
 use Rattle.text.specs.Text.{field}
-use Rattle.listing.specs.declared.Row.{Row}
-use Rattle.listing.specs.Listing.{yes, rowAt}
 use Rattle.records.specs.declared.Part.{Part}
+use Rattle.records.specs.declared.OptionPart.{OptionPart}
+use Rattle.records.specs.declared.OptionPart.the-variants as parts
+use Rattle.row.specs.declared.Row.{Row}
+use Rattle.row.specs.Rows.{firstRows}
 use Rattle.data_object.specs.Decoded.{bytesOf}
 
 -- In all of these 44 is a comma and 10 ends a line. What is absent is a hyphen.
 
 -- a part's length, a comma and its bytes; a hyphen and a comma where there is none
-unfoldable pub pieceOf : List ℕ → Bool → Part → List ℕ
-pieceOf file present part = field present (part .length) 44 ++ pick present (bytesOf file part) []
+unfoldable pub pieceOf : List ℕ → OptionPart → List ℕ
+pieceOf file (parts.Some p) = field true (p .length) 44 ++ bytesOf file p
+pieceOf file parts.None = field false 0 44
 
 -- `TYPE,FLAGS,SIZE,BODY,`
 unfoldable pub headOf : Row → List ℕ
@@ -26,22 +29,17 @@ headOf r =
     ++ field true (r .body) 44))
 
 -- and then `NAMELENGTH,NAMEBYTES,PARTLENGTH,PARTBYTES`
-unfoldable pub rowOf : List ℕ → Row → List ℕ
-rowOf file r =
-    headOf r
-    ++ (pieceOf file (yes (r .«has_name»)) (record { position = r .«name_position»; length = r .«name_length» })
-    ++ ((44 ∷ [])
-    ++ (pieceOf file (yes (r .«has_part»)) (record { position = r .«part_position»; length = r .«part_length» })
-    ++ (10 ∷ []))))
+unfoldable pub rowLine : List ℕ → Row → List ℕ
+rowLine file r = headOf r ++ (pieceOf file (r .name) ++ ((44 ∷ []) ++ (pieceOf file (r .part) ++ (10 ∷ []))))
 
--- the lines of the first n rows of a table
-unfoldable pub rowsOf : List ℕ → List ℕ → ℕ → List ℕ
-rowsOf file t zero = []
-rowsOf file t (suc n) = rowsOf file t n ++ rowOf file (rowAt t n)
+-- the lines of rows
+abbrev pub rowLines : List ℕ → List Row → List ℕ
+rowLines file [] = []
+rowLines file (r ∷ rs) = rowLine file r ++ rowLines file rs
 
 -- `data,LENGTH,BYTES`
 unfoldable pub dataOf : List ℕ → Part → List ℕ
-dataOf file part = (100 ∷ 97 ∷ 116 ∷ 97 ∷ 44 ∷ []) ++ (pieceOf file true part ++ (10 ∷ []))
+dataOf file part = (100 ∷ 97 ∷ 116 ∷ 97 ∷ 44 ∷ []) ++ (pieceOf file (parts.Some part) ++ (10 ∷ []))
 
 -- the words from a place on, n of them, each with a comma
 unfoldable pub figuresOf : List ℕ → ℕ → ℕ → List ℕ
@@ -74,7 +72,7 @@ unfoldable pub answerOf : List ℕ → List ℕ → List ℕ → List ℕ
 answerOf file table words =
     (114 ∷ 101 ∷ 97 ∷ 100 ∷ 44 ∷ [])
     ++ (wordsLine words 1 3
-    ++ (rowsOf file table (getD words 3 0)
+    ++ (rowLines file (firstRows table (getD words 3 0))
     ++ (recordsOf words
     ++ dataOf file (record { position = getD words 52 0; length = getD words 53 0 }))))
 

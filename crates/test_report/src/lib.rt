@@ -1,13 +1,15 @@
 // The report of a decoded header, compared piece after piece with the bytes that are expected.
 use data_object::layout_data;
-use listing::Row;
-use listing::row_at;
+use records::OptionPart;
 use records::Part;
+use row::Row;
+use row::row_at;
 ghost use Prim.Native.Nat.{_/_, _≤_, _<_};
 ghost use lib.ListN.{length, getD};
+ghost use Rattle.row.specs.Rows.{rowWords, firstRows};
 ghost use Rattle.text.specs.Text.{field};
 ghost use Rattle.test_report.specs.Follows.{Follows, Whole, start};
-ghost use Rattle.test_report.specs.Report.{pieceOf, headOf, rowOf, rowsOf, dataOf, wordsLine, recordsOf, reportOf};
+ghost use Rattle.test_report.specs.Report.{pieceOf, headOf, rowLine, rowLines, dataOf, wordsLine, recordsOf, reportOf};
 
 // The expected bytes are met up to a position, or differ before it.
 pub enum Matched {
@@ -57,16 +59,18 @@ pub fn ends(expected: &[u8], reached: Matched) -> bool
     }
 }
 
-// The length of a part and its bytes.
-fn expect_piece(expected: &[u8], from: Matched, file: &[u8], present: bool, part: Part) -> Matched
-    ensures { λ r. ⌜ Follows (now (expected .entry)) from r (pieceOf (now (file .entry)) present part) ⌝ }
+// The length of a part and its bytes, or a hyphen.
+fn expect_piece(expected: &[u8], from: Matched, file: &[u8], part: OptionPart) -> Matched
+    ensures { λ r. ⌜ Follows (now (expected .entry)) from r (pieceOf (now (file .entry)) part) ⌝ }
 {
-    let met = expect_field(expected, from, present, part.length as u64, b',');
-    if present {
-        let bytes = layout_data(file, part);
-        return expect_bytes(expected, met, bytes);
+    match part {
+        OptionPart::None => expect_field(expected, from, false, 0, b','),
+        OptionPart::Some(p) => {
+            let met = expect_field(expected, from, true, p.length as u64, b',');
+            let bytes = layout_data(file, p);
+            expect_bytes(expected, met, bytes)
+        }
     }
-    met
 }
 
 fn expect_head(expected: &[u8], from: Matched, row: Row) -> Matched
@@ -75,30 +79,24 @@ fn expect_head(expected: &[u8], from: Matched, row: Row) -> Matched
     let met = expect_field(expected, from, true, row.kind, b',');
     let met = expect_field(expected, met, true, row.flags, b',');
     let met = expect_field(expected, met, true, row.size, b',');
-    expect_field(expected, met, true, row.body, b',')
+    expect_field(expected, met, true, row.body as u64, b',')
 }
 
 fn expect_row(expected: &[u8], from: Matched, file: &[u8], row: Row) -> Matched
-    ensures { λ r. ⌜ Follows (now (expected .entry)) from r (rowOf (now (file .entry)) row) ⌝ }
+    ensures { λ r. ⌜ Follows (now (expected .entry)) from r (rowLine (now (file .entry)) row) ⌝ }
 {
-    let name = Part {
-        position: row.name_position as usize,
-        length: row.name_length as usize,
-    };
-    let part = Part {
-        position: row.part_position as usize,
-        length: row.part_length as usize,
-    };
+    let name = row.name;
+    let part = row.part;
     let met = expect_head(expected, from, row);
-    let met = expect_piece(expected, met, file, row.has_name != 0, name);
+    let met = expect_piece(expected, met, file, name);
     let met = expect_bytes(expected, met, b",");
-    let met = expect_piece(expected, met, file, row.has_part != 0, part);
+    let met = expect_piece(expected, met, file, part);
     expect_bytes(expected, met, b"\n")
 }
 
 fn expect_rows(expected: &[u8], from: Matched, file: &[u8], table: &[u64], rows: usize) -> Matched
-    requires { ⌜ rows ≤ length (now table) / 10 ⌝ }
-    ensures { λ r. ⌜ Follows (now (expected .entry)) from r (rowsOf (now (file .entry)) (now (table .entry)) rows) ⌝ }
+    requires { ⌜ rows ≤ length (now table) / rowWords ⌝ }
+    ensures { λ r. ⌜ Follows (now (expected .entry)) from r (rowLines (now (file .entry)) (firstRows (now (table .entry)) rows)) ⌝ }
 {
     let mut met = from;
     let mut i = 0;
@@ -113,7 +111,7 @@ fn expect_data(expected: &[u8], from: Matched, file: &[u8], part: Part) -> Match
     ensures { λ r. ⌜ Follows (now (expected .entry)) from r (dataOf (now (file .entry)) part) ⌝ }
 {
     let met = expect_bytes(expected, from, b"data,");
-    let met = expect_piece(expected, met, file, true, part);
+    let met = expect_piece(expected, met, file, OptionPart::Some(part));
     expect_bytes(expected, met, b"\n")
 }
 
@@ -156,7 +154,7 @@ fn expect_records(expected: &[u8], from: Matched, words: &[u64; 54]) -> Matched
 // How far the report of a header, given as its words and its table, stands at the start of what is
 // expected.
 pub fn expect_report(expected: &[u8], file: &[u8], table: &[u64], words: &[u64; 54]) -> Matched
-    requires { ⌜ getD (now words) 3 0 ≤ length (now table) / 10 ⌝ }
+    requires { ⌜ getD (now words) 3 0 ≤ length (now table) / rowWords ⌝ }
     ensures { λ r. ⌜ Follows (now (expected .entry)) start r (reportOf (now (file .entry)) (now (table .entry)) (now (words .entry))) ⌝ }
 {
     if words[0] != 0 {
