@@ -16,7 +16,7 @@ same-requires : tie.Need-same-requires
 same-requires c κs = search needs
 
 returns : tie.Need-returns
-returns c = (λ h. sym (c .before .before .list .ensures .1) ∙ c .same .ensures .0 h, λ h. c .same .ensures .1 (c .before .before .list .ensures .1 ∙ h))
+returns c = (λ h. sym (c .before .before .list .ensures .1 .0) ∙ c .same .ensures .0 h, λ h. c .same .ensures .1 (c .before .before .list .ensures .1 .0 ∙ h))
 
 pub lists-spec : {M : Type 1} → statement M
 lists-spec =

@@ -1,4 +1,4 @@
-use Rattle.test_report.specs.Report.{rowOf}
+use Rattle.test_report.specs.Report.{rowLine}
 use Rattle.test_report.specs.FollowsLaws.{then}
 use borrow.Author.Needs.{needs}
 use Rattle.test_report.proofs.expect_row.Statement.{statement}
@@ -26,8 +26,8 @@ expect-bytes-requires-2 : tie.Need-expect-bytes-requires-2
 expect-bytes-requires-2 c κs = search needs
 
 returns : tie.Need-returns
-unfolding rowOf
-returns c = then (c .before .before .before .before .before .before .before .before .expect-head .ensures) (then (c .before .before .before .before .before .before .expect-piece .ensures) (then (c .before .before .before .before .expect-bytes .ensures) (then (c .before .before .expect-piece2 .ensures) (c .expect-bytes2 .ensures))))
+unfolding rowLine
+returns c = then (c .before .before .before .before .before .before .expect-head .ensures) (then (c .before .before .before .before .before .expect-piece .ensures) (then (c .before .before .before .expect-bytes .ensures) (then (c .before .before .expect-piece2 .ensures) (c .expect-bytes2 .ensures))))
 
 pub expect-row-spec : {M : Type 1} → statement M
 expect-row-spec =

@@ -1,7 +1,8 @@
 use borrow.Author.Needs.{needs}
 use Rattle.test_report.specs.Follows.{Follows}
-use Rattle.test_report.specs.Report.{rowsOf}
-use Rattle.test_report.specs.Laws.{rows-more, rows-none}
+use Rattle.test_report.specs.Report.{rowLines}
+use Rattle.test_report.specs.Laws.{rows-more}
+use Rattle.row.specs.Rows.{firstRows}
 use native.Mathlib.Omega.{arith}
 use mathlib.Core.Path.{_≡_}
 use Prim.Native.Nat.{_≤_, _-_}
@@ -10,13 +11,13 @@ use Rattle.test_report.proofs.expect_rows.Statement.{statement}
 use Rattle.test_report.proofs.expect_rows.Tie as tie
 
 abbrev Inv-loop : tie.InvT-loop
-Inv-loop expected file table rows met₀ i₀ met i = (i ≤ rows) × Follows expected met₀ met (rowsOf file table i)
+Inv-loop expected file table rows met₀ i₀ met i = (i ≤ rows) × Follows expected met₀ met (rowLines file (firstRows table i))
 
 abbrev μ-loop : tie.MeasureT-loop
 μ-loop expected file table rows met₀ i₀ met i = rows - i
 
 loop-holds : tie.Need-loop-holds Inv-loop μ-loop
-loop-holds c = (search needs, rw rows-none (follows-none _ _))
+loop-holds c = (search needs, follows-none _ _)
 
 row-at-requires : tie.Need-row-at-requires Inv-loop μ-loop
 row-at-requires c κs = search needs
