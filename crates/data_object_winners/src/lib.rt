@@ -18,6 +18,7 @@ use records::DataType;
 use records::GroupInfo;
 use records::LinkInfo;
 use records::Part;
+use row::kind_at;
 use row::row_at;
 ghost use mathlib.Core.Path.{_≡_};
 ghost use Prim.Native.Nat.{_/_, _≤_};
@@ -45,8 +46,7 @@ pub fn last_rows(table: &[u64], rows: usize, last: &mut [usize])
 {
     let mut row: usize = 0;
     while row < rows {
-        let found = row_at(table, row);
-        let kind = found.kind as usize;
+        let kind = kind_at(table, row) as usize;
         row += 1;
         if kind < 22 {
             last[kind] = row;

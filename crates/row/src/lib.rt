@@ -97,6 +97,14 @@ pub fn row_at(table: &[u64], i: usize) -> Row
     }
 }
 
+// The type of row i alone, for a pass over many rows.
+pub fn kind_at(table: &[u64], i: usize) -> u64
+    requires { ⌜ i < length (now table) / rowWords ⌝ }
+    ensures { λ r. ⌜ r ≡ rowAt (now (table .entry)) i .kind ⌝ }
+{
+    table[i * ROW_WORDS]
+}
+
 // Every word behind the first `rows` rows zero.
 pub fn clear_behind(table: &mut [u64], rows: usize)
     requires { ⌜ rows * rowWords ≤ length (now table) ⌝ }
