@@ -1,6 +1,7 @@
 // The words of a decoded object header, for what takes numbers alone: 54 of them, in a lent array.
 use data_object::Answer;
 use data_object::DataObject;
+use data_object::data_object;
 use records::AttributeInfo;
 use records::DataFormat;
 use records::DataSpace;
@@ -20,6 +21,7 @@ ghost use Prim.Native.Nat.{_+_, _≤_};
 ghost use lib.ListN.{length};
 ghost use lib.Seq.{sets};
 ghost use Rattle.data_object_words.specs.Words.{wide8, wide16, wide32, optionalWords, dimensionsWords, dataSpaceWords, formatWords, dataTypeWords, linkInfoWords, groupInfoWords, attributeInfoWords, dataWords, answerWords, wordsOf};
+ghost use Rattle.data_object_words.specs.Handed.{Handed};
 
 // A field that may be absent, as one of 64 bits.
 fn wide_u8(field: OptionU8) -> OptionU64
@@ -221,7 +223,7 @@ fn put_answer(words: &mut [u64], answer: Answer)
 }
 
 // All the words of an object, whatever stood in the array before.
-pub fn put_words(object: DataObject, words: &mut [u64; 54])
+fn put_words(object: DataObject, words: &mut [u64; 54])
     ensures { λ _. ⌜ now (words .exit) ≡ wordsOf object ⌝ }
 {
     let answer = object.answer;
@@ -233,4 +235,28 @@ pub fn put_words(object: DataObject, words: &mut [u64; 54])
     put_group_info(words, object.gi);
     put_attribute_info(words, object.ai);
     put_data(words, object.data);
+}
+
+// An object header at a position: its messages in the table, and its words. Whoever decodes a header
+// does it by this function, so that the object is nowhere kept but in its words.
+pub fn header_words(
+    file: &[u8],
+    position: u64,
+    offset_width: u64,
+    length_width: u64,
+    end_of_file: u64,
+    table: &mut [u64],
+    words: &mut [u64; 54],
+)
+    ensures { λ _. ⌜ Handed (now (file .entry)) «offset_width» «length_width» «end_of_file» position (length (now (table .entry))) (now (table .exit)) (now (words .exit)) ⌝ }
+{
+    let object = data_object(
+        file,
+        position,
+        offset_width,
+        length_width,
+        end_of_file,
+        table,
+    );
+    put_words(object, words);
 }

@@ -1,4 +1,4 @@
--- What the exported functions yield. Assumes nothing: these are definitions.
+-- What a lookup and a part are handed over as. Assumes nothing: these are definitions.
 use Prim.Native.Nat.{ℕ, _+_, _≤_}
 use mathlib.Core.Path.{_≡_}
 use mathlib.Core.List.{List}
@@ -6,20 +6,12 @@ use lib.ListN.{length, take, drop}
 use lib.Dec.{leb}
 use Rattle.format.specs.Format.{pick}
 use Rattle.records.specs.declared.Part.{Part}
-use Rattle.data_object.specs.declared.DataObject.{DataObject}
-use Rattle.data_object.specs.Decoded.{Decoded, bytesOf}
-use Rattle.data_object_words.specs.Words.{wordsOf}
+use Rattle.data_object.specs.Decoded.{bytesOf}
 use Rattle.lookup.specs.declared.LookupAnswer.{LookupAnswer}
 use Rattle.lookup.specs.Lookup.{Looked}
 use Rattle.firmware.specs.declared.PartWords.{PartWords}
 use Rattle.firmware.specs.declared.LookupWords.{LookupWords}
 use Rattle.firmware.specs.Words.{noPart, inWords, lookupOf}
-
--- the words of what decoding yields, which leaves t of a table of n words
-pub record Handed (file : List ℕ) (offsets lengths end at n : ℕ) (t w : List ℕ) : Type 0 where
-  pub object : DataObject
-  pub decoded : Decoded file offsets lengths end at n object t
-  pub words : w ≡ wordsOf object
 
 -- the words of what a lookup yields
 pub record HandedRow (file table : List ℕ) (rows : ℕ) (name : List ℕ) (r : LookupWords) : Type 0 where

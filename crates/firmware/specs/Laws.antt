@@ -11,7 +11,8 @@ use Rattle.data_object.specs.declared.Answer.{Answer}
 use Rattle.data_object.specs.declared.Answer.the-variants as answers
 use Rattle.data_object.specs.Decoded.{Meant}
 use Rattle.firmware.specs.Words.{noPart, inWords}
-use Rattle.firmware.specs.Handed.{Handed, HandedPart}
+use Rattle.data_object_words.specs.Handed.{Handed}
+use Rattle.firmware.specs.Handed.{HandedPart}
 
 module _ (file : List ℕ) (p : Part) where
   pub part-lies : p .position + p .length ≤ length file → HandedPart file p (inWords p)

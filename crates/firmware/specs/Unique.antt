@@ -1,21 +1,13 @@
--- At most one answer meets each contract, so that every word of it is decided by the input. Assumes nothing.
+-- At most one answer to a lookup, and one for a part, meets its contract, so that every word of it is decided by the input. Assumes nothing.
 use Prim.Native.Nat.{ℕ}
 use mathlib.Core.Path.{_≡_, sym, ap, _∙_}
 use mathlib.Core.List.{List}
 use Rattle.records.specs.declared.Part.{Part}
-use Rattle.data_object.specs.Unique.{decoded-unique}
-use Rattle.data_object_words.specs.Words.{wordsOf}
 use Rattle.lookup.specs.Unique.{looked-unique}
 use Rattle.firmware.specs.declared.LookupWords.{LookupWords}
 use Rattle.firmware.specs.declared.PartWords.{PartWords}
 use Rattle.firmware.specs.Words.{lookupOf}
-use Rattle.firmware.specs.Handed.{Handed, HandedRow, HandedPart}
-
-pub handed-unique : (file : List ℕ) (offsets lengths end at n : ℕ) (t u v w : List ℕ) → Handed file offsets lengths end at n t v
-    → Handed file offsets lengths end at n u w → (t ≡ u) × (v ≡ w)
-handed-unique file offsets lengths end at n t u v w h g =
-    let same = decoded-unique file offsets lengths end at n (h .object) (g .object) t u (h .decoded) (g .decoded) in
-    (same .1, h .words ∙ ap wordsOf (same .0) ∙ sym (g .words))
+use Rattle.firmware.specs.Handed.{HandedRow, HandedPart}
 
 pub handed-row-unique : (file table : List ℕ) (rows : ℕ) (name : List ℕ) (r s : LookupWords) → HandedRow file table rows name r → HandedRow file table rows name s → r ≡ s
 handed-row-unique file table rows name r s h g = h .words ∙ ap lookupOf (looked-unique file table rows name (h .answer) (g .answer) (h .looked) (g .looked)) ∙ sym (g .words)

@@ -1,7 +1,6 @@
 // The project's operations for firmware: C functions on numbers and byte slices. None requires
 // anything of its caller.
-use data_object::data_object;
-use data_object_words::put_words;
+use data_object_words::header_words;
 use listing::list;
 use lookup::LookupAnswer;
 use lookup::lookup;
@@ -9,7 +8,8 @@ ghost use mathlib.Core.Path.{_≡_};
 ghost use lib.ListN.{length, take, drop};
 ghost use Rattle.listing.specs.Listing.{listingOf, Counts};
 ghost use Rattle.firmware.specs.Words.{foundRow, lookupOf};
-ghost use Rattle.firmware.specs.Handed.{Handed, HandedRow, HandedPart};
+ghost use Rattle.data_object_words.specs.Handed.{Handed};
+ghost use Rattle.firmware.specs.Handed.{HandedRow, HandedPart};
 
 // Bytes of the file, from a position on.
 #[repr(C)]
@@ -63,15 +63,15 @@ pub extern "C" fn dowringaf_data_object(
 )
     ensures { λ _. ⌜ Handed (now (file .entry)) «offset_width» «length_width» «end_of_file» position (length (now (table .entry))) (now (table .exit)) (now (words .exit)) ⌝ }
 {
-    let object = data_object(
+    header_words(
         file,
         position,
         offset_width,
         length_width,
         end_of_file,
         table,
+        words,
     );
-    put_words(object, words);
 }
 
 // The first of the `rows` rows of a table whose name in the file is `name`.

@@ -4,11 +4,13 @@ use mathlib.Core.Path.{_≡_, refl, sym, ap, _∙_}
 use mathlib.Core.List.{List, [], _∷_, _++_, append-assoc, append-nil}
 use native.Mathlib.Omega.{arith}
 use native.Mathlib.Numerals.{add-one}
-use lib.ListN.{length, take, drop, replicate, length-append, length-take, length-drop, length-replicate}
+use lib.ListN.{length, getD, take, drop, replicate, length-append, length-take, length-drop, length-replicate}
 use lib.Seq.{take-all}
+use borrow.Author.Tests.{ne-eqb}
 use Rattle.format.specs.Format.{found, refused, read}
 use Rattle.format.specs.Laws.{sound, never}
 use Rattle.records.specs.Refusals.{refusalNumber}
+use Rattle.records.specs.RefusalLaws.{refusal-positive}
 use Rattle.records.specs.declared.Refusal.{Refusal}
 use Rattle.row.specs.declared.Row.{Row}
 use Rattle.row.specs.Rows.{rowWords, rowAt, firstRows}
@@ -20,9 +22,13 @@ use Rattle.data_object.specs.declared.Answer.{Answer}
 use Rattle.data_object.specs.declared.Answer.the-variants as answers
 use Rattle.data_object.specs.declared.DataObject.{DataObject}
 use Rattle.data_object.specs.Decoded.{answerOut, counts, decoded, Meant, Decoded}
-use Rattle.data_object.specs.DecodedLaws.{complete, accepted-rows, rows-room}
+use Rattle.data_object.specs.DecodedLaws.{complete, accepted-rows}
+use Rattle.data_object_words.specs.Words.{wordsOf}
+use Rattle.data_object_words.specs.Laws.{rows-word}
+use Rattle.data_object_words.specs.Told.{rows-told}
+use Rattle.data_object_words.specs.Handed.{Handed}
 use Rattle.listing.specs.declared.Lead.{Lead}
-use Rattle.listing.specs.Listing.{lead, lineOf, linesOf, refusedOf, resultOf, answerText, Counts}
+use Rattle.listing.specs.Listing.{lead, lineOf, linesOf, refusedOf, resultOf, wordsText, Counts}
 
 lines-append : (i : ℕ) (rs qs : List Row) → linesOf i (rs ++ qs) ≡ linesOf i rs ++ linesOf (i + length rs) qs
 lines-append i [] qs = let e : i + 0 ≡ i = omega arith in rw e
@@ -59,31 +65,34 @@ wrote-counts {o} {o′} {r} {xs} w =
 pub part-rest : (n : ℕ) (s : List ℕ) → take (length s - n) (drop n s) ≡ drop n s
 part-rest n s = take-all (length s - n) (drop n s) (omega (arith, length-drop n s))
 
--- what is told of a decoded header is what the definition gives, since its table holds the rows of the definition's items
+-- what is told by the words of a header is what the definition gives, since its table holds the rows of the definition's items, and no refusal
+-- has the number 0
 module _ (file : List ℕ) (offsets lengths end at n : ℕ) (r : DataObject) (t : List ℕ) (d : Decoded file offsets lengths end at n r t) where
-  pub listed : answerText (r .answer) (firstRows t (r .rows)) ≡ resultOf (decoded file offsets lengths end at n)
-  unfolding resultOf
-  listed = go (r .answer) (d .answer) (d .meant)
+  pub listed : wordsText (wordsOf r) (firstRows t (r .rows)) ≡ resultOf (decoded file offsets lengths end at n)
+  unfolding resultOf wordsText
+  listed = go (r .answer) refl (d .answer) (d .meant)
     where
       refusal : (x : Refusal) (w : Went (List Item)) → refused (refusalNumber x) ≡ counts w → refusedOf (refusalNumber x) ≡ resultOf w
       refusal x (reached xs q) e = never e
       refusal x (stopped k m) e = let z : refusalNumber x ≡ k = cc in ap refusedOf z
 
-      go : (a : Answer) → answerOut a ≡ counts (decoded file offsets lengths end at n) → Meant file offsets lengths end at n a r t
-          → answerText a (firstRows t (r .rows)) ≡ resultOf (decoded file offsets lengths end at n)
-      go (answers.Read next count) e m =
-          rw (m .entries, accepted-rows file offsets lengths end at n m) (sym (ap resultOf (complete file offsets lengths end at n next (m .items) (m .readable))))
-      go (answers.Refused x) e m = refusal x (decoded file offsets lengths end at n) e
+      go : (a : Answer) → r .answer ≡ a → answerOut a ≡ counts (decoded file offsets lengths end at n) → Meant file offsets lengths end at n a r t
+          → wordsText (wordsOf r) (firstRows t (r .rows)) ≡ resultOf (decoded file offsets lengths end at n)
+      go (answers.Read next count) s e m =
+          rw (s, m .entries, accepted-rows file offsets lengths end at n m) (sym (ap resultOf (complete file offsets lengths end at n next (m .items) (m .readable))))
+      go (answers.Refused x) s e m = rw (s, ne-eqb (refusalNumber x) 0 (refusal-positive x)) (refusal x (decoded file offsets lengths end at n) e)
 
 -- 512 rows are lent
-module _ (file : List ℕ) (offsets lengths end at : ℕ) (r : DataObject) (t : List ℕ) (d : Decoded file offsets lengths end at (length (replicate {A = ℕ} (512 * rowWords) 0)) r t) where
+module _ (file : List ℕ) (offsets lengths end at : ℕ) (t w : List ℕ) (h : Handed file offsets lengths end at (length (replicate {A = ℕ} (512 * rowWords) 0)) t w) where
   words : length (replicate {A = ℕ} (512 * rowWords) 0) / rowWords ≡ 512
   words = omega (arith, length-replicate {A = ℕ} (512 * rowWords) 0)
 
-  pub lent-listed : answerText (r .answer) (firstRows t (r .rows)) ≡ resultOf (decode file offsets lengths end at (lent 512))
+  pub lent-listed : wordsText w (firstRows t (getD w 3 0)) ≡ resultOf (decode file offsets lengths end at (lent 512))
   lent-listed =
-      listed file offsets lengths end at (length (replicate {A = ℕ} (512 * rowWords) 0)) r t d
+      ap (λ (v : List ℕ). wordsText v (firstRows t (getD v 3 0))) (h .words)
+      ∙ ap (λ (k : ℕ). wordsText (wordsOf (h .object)) (firstRows t k)) (rows-word (h .object))
+      ∙ listed file offsets lengths end at (length (replicate {A = ℕ} (512 * rowWords) 0)) (h .object) t (h .decoded)
       ∙ ap (λ (n : ℕ). resultOf (decode file offsets lengths end at (lent n))) words
 
-  pub lent-rows : r .rows ≤ 512
-  lent-rows = omega (arith, words, rows-room file offsets lengths end at (length (replicate {A = ℕ} (512 * rowWords) 0)) r t d)
+  pub lent-rows : getD w 3 0 ≤ 512
+  lent-rows = omega (arith, words, rows-told h)

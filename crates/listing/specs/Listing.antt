@@ -3,11 +3,10 @@ use Prim.Native.Nat.{ℕ, suc, _≤_}
 use mathlib.Core.Path.{_≡_}
 use mathlib.Core.Bool.{true, false}
 use mathlib.Core.List.{List, [], _∷_, _++_}
-use lib.ListN.{length, take, drop}
-use lib.Dec.{ltb}
+use lib.ListN.{length, getD, take, drop}
+use lib.Dec.{ltb, eqb}
 use Rattle.text.specs.Text.{field}
 use Rattle.format.specs.Format.{Format, done, number, Out, found, refused, pick, read}
-use Rattle.records.specs.Refusals.{refusalNumber}
 use Rattle.records.specs.declared.OptionPart.{OptionPart}
 use Rattle.records.specs.declared.OptionPart.the-variants as parts
 use Rattle.row.specs.declared.Row.{Row}
@@ -15,8 +14,6 @@ use Rattle.grammar.specs.Grammar.{Item}
 use Rattle.grammar.specs.Table.{rowsOf}
 use Rattle.grammar.specs.Walk.{Went, reached, stopped, lent}
 use Rattle.data_object_header.specs.Headers.{decode}
-use Rattle.data_object.specs.declared.Answer.{Answer}
-use Rattle.data_object.specs.declared.Answer.the-variants as answers
 use Rattle.listing.specs.declared.Lead.{Lead}
 use Rattle.listing.specs.declared.LeadRead.{LeadRead}
 use Rattle.listing.specs.declared.LeadRead.the-variants as leads
@@ -70,10 +67,9 @@ unfoldable pub resultOf : Went (List Item) → List ℕ
 resultOf (reached xs next) = linesOf 0 (rowsOf xs) ++ endOf next (length xs)
 resultOf (stopped r n) = refusedOf r
 
--- the same of an answer with its rows
-abbrev pub answerText : Answer → List Row → List ℕ
-answerText (answers.Read next entries) rs = linesOf 0 rs ++ endOf next entries
-answerText (answers.Refused r) rs = refusedOf (refusalNumber r)
+-- the same of the words of a header (`wordsOf`) and its rows
+unfoldable pub wordsText : List ℕ → List Row → List ℕ
+wordsText w rs = pick (eqb (getD w 0 0) 0) (linesOf 0 rs ++ endOf (getD w 1 0) (getD w 2 0)) (refusedOf (getD w 0 0))
 
 -- what follows the lead bytes is the file; 512 rows are lent
 unfoldable pub fileOf : List ℕ → Out Lead → List ℕ

@@ -1,6 +1,5 @@
 // The listing: from the program's input to the text that it writes.
-use data_object::Answer;
-use data_object::data_object;
+use data_object_words::header_words;
 use helpers::ReadU8;
 use helpers::ReadU64;
 use helpers::le_u8;
@@ -11,11 +10,11 @@ use row::Row;
 use row::row_at;
 ghost use mathlib.Core.Path.{_≡_};
 ghost use Prim.Native.Nat.{_+_, _*_, _/_, _≤_};
-ghost use lib.ListN.{length, take, drop};
+ghost use lib.ListN.{length, getD, take, drop};
 ghost use Rattle.format.specs.Format.{read};
 ghost use Rattle.row.specs.Rows.{rowWords, firstRows};
 ghost use Rattle.text.specs.Text.{Wrote};
-ghost use Rattle.listing.specs.Listing.{lead as leadFormat, leadOut, headOf, placeOf, lineOf, linesOf, endOf, refusedOf, answerText, listingOf, Counts};
+ghost use Rattle.listing.specs.Listing.{lead as leadFormat, leadOut, headOf, placeOf, lineOf, linesOf, endOf, refusedOf, wordsText, listingOf, Counts};
 
 // What stands before the file: the widths of offsets and lengths, the end-of-file address and the
 // position of the header.
@@ -129,18 +128,17 @@ fn put_refused(out: &mut [u8], n: u64) -> usize
     text::put_field(out, at, true, n, b'\n')
 }
 
-// An answer, with the rows of its table, as text.
-fn put_answer(out: &mut [u8], table: &[u64], answer: Answer, rows: usize) -> usize
-    requires { ⌜ (rows ≤ length (now table) / rowWords) × (rows * 189 + 46 ≤ length (now out)) ⌝ }
-    ensures { λ r. ⌜ Wrote (now (out .entry)) 0 (now (out .exit)) r (answerText answer (firstRows (now (table .entry)) rows)) ⌝ }
+// A header's words, with the rows of its table, as text.
+fn put_result(out: &mut [u8], table: &[u64], words: &[u64; 54]) -> usize
+    requires { ⌜ (getD (now words) 3 0 ≤ length (now table) / rowWords) × (getD (now words) 3 0 * 189 + 46 ≤ length (now out)) ⌝ }
+    ensures { λ r. ⌜ Wrote (now (out .entry)) 0 (now (out .exit)) r (wordsText (now (words .entry)) (firstRows (now (table .entry)) (getD (now (words .entry)) 3 0))) ⌝ }
 {
-    match answer {
-        Answer::Read(next, entries) => {
-            let at = put_lines(out, table, rows);
-            put_end(out, at, next as u64, entries as u64)
-        }
-        Answer::Refused(refusal) => put_refused(out, refusal.number()),
+    let refused = words[0];
+    if refused != 0 {
+        return put_refused(out, refused);
     }
+    let at = put_lines(out, table, words[3] as usize);
+    put_end(out, at, words[1], words[2])
 }
 
 // The listing of an input, put at the start of out; the answer is its length, and what stands behind
@@ -158,14 +156,15 @@ pub fn list(input: &[u8], out: &mut [u8; 98304]) -> usize
         return put_refused(out, 3);
     };
     let mut table = [0u64; 512 * ROW_WORDS];
-    let object = data_object(
+    let mut words = [0u64; 54];
+    header_words(
         &input[start..],
         lead.position,
         lead.offsets as u64,
         lead.lengths as u64,
         lead.end_of_file,
         &mut table,
+        &mut words,
     );
-    let answer = object.answer;
-    put_answer(out, &table, answer, object.rows)
+    put_result(out, &table, &words)
 }

@@ -2,6 +2,7 @@
 use Prim.Native.Nat.{ℕ}
 use mathlib.Core.Path.{_≡_, refl, sym, ap, _∙_}
 use mathlib.Core.List.{List, [], _∷_}
+use native.Mathlib.Omega.{arith}
 use lib.ListN.{getD}
 use Rattle.records.specs.Refusals.{refusalNumber}
 use Rattle.records.specs.declared.Refusal.{Refusal}
@@ -68,6 +69,14 @@ given-back refusals.TypeLevel = refl
 given-back refusals.Entries = refl
 given-back refusals.Table = refl
 given-back refusals.Checksum = refl
+
+-- no refusal has the number 0
+pub refusal-positive : (r : Refusal) → refusalNumber r ≡ 0 → ⊥
+unfolding inOrder
+refusal-positive r e =
+    let first : r ≡ refusals.Width = sym (given-back r) ∙ ap (λ (n : ℕ). getD inOrder n refusals.Width) e in
+    let one : refusalNumber r ≡ 1 = ap refusalNumber first in
+    omega arith
 
 pub refusal-unique : (x y : Refusal) → refusalNumber x ≡ refusalNumber y → x ≡ y
 refusal-unique x y e = sym (given-back x) ∙ ap (λ (n : ℕ). getD inOrder n refusals.Width) e ∙ given-back y

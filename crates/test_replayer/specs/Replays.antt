@@ -6,19 +6,17 @@ use mathlib.Core.List.{List}
 use lib.ListN.{drop}
 use Rattle.format.specs.Format.{Out, found, refused, read}
 use Rattle.row.specs.Rows.{rowWords}
-use Rattle.data_object.specs.declared.DataObject.{DataObject}
-use Rattle.data_object.specs.Decoded.{Decoded}
-use Rattle.data_object_words.specs.Words.{wordsOf}
+use Rattle.data_object_words.specs.Handed.{Handed}
 use Rattle.listing.specs.declared.Lead.{Lead}
 use Rattle.listing.specs.Listing.{lead}
 use Rattle.test_report.specs.Report.{reportOf}
 
 -- what decoding the file into a table of 64 rows yields has the report that is expected, or not
 pub record Answered (file : List ℕ) (l : Lead) (expected : List ℕ) (b : Bool) : Type 0 where
-  pub object : DataObject
   pub table : List ℕ
-  pub decoded : Decoded file (l .offsets) (l .lengths) (l .«end_of_file») (l .position) (64 * rowWords) object table
-  pub says : (b ≡ true → reportOf file table (wordsOf object) ≡ expected) × (reportOf file table (wordsOf object) ≡ expected → b ≡ true)
+  pub words : List ℕ
+  pub handed : Handed file (l .offsets) (l .lengths) (l .«end_of_file») (l .position) (64 * rowWords) table words
+  pub says : (b ≡ true → reportOf file table words ≡ expected) × (reportOf file table words ≡ expected → b ≡ true)
 
 -- what follows the lead bytes is the file; an input with fewer than the 18 lead bytes does not pass
 abbrev pub ReplaysBy : List ℕ → List ℕ → Bool → Out Lead → Type 0

@@ -1,11 +1,10 @@
 -- An input and expected bytes have one answer, since decoding has one report. Assumes nothing.
 use Prim.Native.Nat.{ℕ, _*_}
-use mathlib.Core.Path.{_≡_, refl, sym, ap, ap₂, _∙_}
+use mathlib.Core.Path.{_≡_, refl, sym, ap₂, _∙_}
 use mathlib.Core.Bool.{Bool, true, false}
 use mathlib.Core.List.{List}
 use Rattle.row.specs.Rows.{rowWords}
-use Rattle.data_object.specs.Unique.{decoded-unique}
-use Rattle.data_object_words.specs.Words.{wordsOf}
+use Rattle.data_object_words.specs.Unique.{handed-unique}
 use Rattle.listing.specs.declared.Lead.{Lead}
 use Rattle.test_report.specs.Report.{reportOf}
 use Rattle.test_replayer.specs.Replays.{Answered}
@@ -14,10 +13,10 @@ use Rattle.test_replayer.specs.Replays.{Answered}
 pub one-answer : (file : List ℕ) (l : Lead) (expected : List ℕ) (b b′ : Bool) → Answered file l expected b → Answered file l expected b′ → b ≡ b′
 one-answer file l expected b b′ a a′ = go b b′ (λ h. a′ .says .1 (sym report ∙ a .says .0 h)) (λ h. a .says .1 (report ∙ a′ .says .0 h))
   where
-    report : reportOf file (a .table) (wordsOf (a .object)) ≡ reportOf file (a′ .table) (wordsOf (a′ .object))
+    report : reportOf file (a .table) (a .words) ≡ reportOf file (a′ .table) (a′ .words)
     report =
-        let same = decoded-unique file (l .offsets) (l .lengths) (l .«end_of_file») (l .position) (64 * rowWords) (a .object) (a′ .object) (a .table) (a′ .table) (a .decoded) (a′ .decoded) in
-        ap₂ (reportOf file) (same .1) (ap wordsOf (same .0))
+        let same = handed-unique file (l .offsets) (l .lengths) (l .«end_of_file») (l .position) (64 * rowWords) (a .table) (a′ .table) (a .words) (a′ .words) (a .handed) (a′ .handed) in
+        ap₂ (reportOf file) (same .0) (same .1)
 
     go : (x y : Bool) → (x ≡ true → y ≡ true) → (y ≡ true → x ≡ true) → x ≡ y
     go true y f g = sym (f refl)

@@ -1,6 +1,5 @@
 // Whether a case passes: its input has the listing, or the report of its header, that is expected.
-use data_object::data_object;
-use data_object_words::put_words;
+use data_object_words::header_words;
 use listing::LeadRead;
 use listing::list;
 use listing::read_lead;
@@ -34,16 +33,16 @@ fn replays(input: &[u8], expected: &[u8]) -> bool
     };
     let file = &input[start..];
     let mut table = [0u64; 64 * ROW_WORDS];
-    let object = data_object(
+    let mut words = [0u64; 54];
+    header_words(
         file,
         lead.position,
         lead.offsets as u64,
         lead.lengths as u64,
         lead.end_of_file,
         &mut table,
+        &mut words,
     );
-    let mut words = [0u64; 54];
-    put_words(object, &mut words);
     let reached = expect_report(expected, file, &table, &words);
     ends(expected, reached)
 }

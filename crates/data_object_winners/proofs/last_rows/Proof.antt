@@ -8,9 +8,6 @@ use mathlib.Core.Path.{_≡_, refl, sym, ap, ap₂, _∙_}
 use Prim.Native.Nat.{ℕ, _+_, _-_, _≤_}
 use Rattle.data_object_winners.proofs.last_rows.Statement.{statement}
 use Rattle.data_object_winners.proofs.last_rows.Tie as tie
-use Rattle.data_object_winners.proofs.last_rows.Reads as reads
-use Rattle.data_object_winners.proofs.last_rows.Lts as lts
-use Rattle.row.proofs.kind_at.Reads as kind-at-reads
 
 abbrev Inv-loop : tie.InvT-loop
 Inv-loop table rows last₀ row₀ last row = (row ≤ rows) × (last ≡ lastRows last₀ table row) × (length last ≡ length last₀)

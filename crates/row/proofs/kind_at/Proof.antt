@@ -3,8 +3,6 @@ use mathlib.Core.Path.{refl}
 use borrow.Author.Needs.{needs}
 use Rattle.row.proofs.kind_at.Statement.{statement}
 use Rattle.row.proofs.kind_at.Tie as tie
-use Rattle.row.proofs.kind_at.Reads as reads
-use Rattle.row.proofs.kind_at.Lts as lts
 
 -- src/lib.rt:105:11
 mul-result : tie.Need-mul-result

@@ -28,32 +28,29 @@ part-file-start c = omega (arith, lead-inside _ _ _ (sym (c .before .before .bef
 part-file-end : tie.Need-part-file-end
 part-file-end c = search needs
 
-cast-data-object : tie.Need-cast-data-object
-cast-data-object c = search needs
+cast-header-words : tie.Need-cast-header-words
+cast-header-words c = search needs
 
-cast-data-object-2 : tie.Need-cast-data-object-2
-cast-data-object-2 c = search needs
+cast-header-words-2 : tie.Need-cast-header-words-2
+cast-header-words-2 c = search needs
 
-slice-aggregate-data-object : tie.Need-slice-aggregate-data-object
-slice-aggregate-data-object c = search needs
+slice-aggregate-header-words : tie.Need-slice-aggregate-header-words
+slice-aggregate-header-words c = search needs
 
-data-object-requires : tie.Need-data-object-requires
-data-object-requires c κs = search needs
-
-put-words-requires : tie.Need-put-words-requires
-put-words-requires c κs = search needs
+header-words-requires : tie.Need-header-words-requires
+header-words-requires c κs = search needs
 
 slice-aggregate-expect-report : tie.Need-slice-aggregate-expect-report
 slice-aggregate-expect-report c = search needs
 
 expect-report-requires : tie.Need-expect-report-requires
-expect-report-requires c κs = let h = few-rows _ (c .before .before .before .before .before .before .before .before .before .before .before .lead .given .0 .0) _ _ _ (c .before .before .before .before .before .data-object .ensures) (c .before .before .put-words .ensures) in search needs
+expect-report-requires c κs = let h = few-rows _ (c .before .before .before .before .before .before .before .before .before .before .lead .given .0 .0) _ _ (c .before .before .before .header-words .ensures) in search needs
 
 ends-requires : tie.Need-ends-requires
 ends-requires c κs = search needs
 
 returns-2 : tie.Need-returns-2
-returns-2 c = rw (← c .before .before .before .before .before .before .before .before .before .before .before .before .before .before .before .read-lead .ensures, c .before .before .before .before .before .before .before .before .before .before .before .before .before .lead .given .1, ← part-rest _ (c .before .before .before .before .before .before .before .before .before .before .before .before .before .before .before .before .before .before .args .input .now)) (answered _ (c .before .before .before .before .before .before .before .before .before .before .before .before .before .lead .given .0 .0) _ _ _ (c .before .before .before .before .before .before .before .data-object .ensures) (c .before .before .before .before .put-words .ensures) _ _ _ (c .before .expect-report .ensures) (c .ends .ensures))
+returns-2 c = rw (← c .before .before .before .before .before .before .before .before .before .before .before .before .before .before .read-lead .ensures, c .before .before .before .before .before .before .before .before .before .before .before .before .lead .given .1, ← part-rest _ (c .before .before .before .before .before .before .before .before .before .before .before .before .before .before .before .before .before .args .input .now)) (answered _ (c .before .before .before .before .before .before .before .before .before .before .before .before .lead .given .0 .0) _ _ (c .before .before .before .before .before .header-words .ensures) _ _ _ (c .before .expect-report .ensures) (c .ends .ensures))
 
 pub replays-spec : {M : Type 1} → statement M
 replays-spec =
@@ -66,11 +63,10 @@ replays-spec =
     sub-file
     part-file-start
     part-file-end
-    cast-data-object
-    cast-data-object-2
-    slice-aggregate-data-object
-    data-object-requires
-    put-words-requires
+    cast-header-words
+    cast-header-words-2
+    slice-aggregate-header-words
+    header-words-requires
     slice-aggregate-expect-report
     expect-report-requires
     ends-requires
