@@ -20,7 +20,7 @@ pub record Item : Type 0 where
 abbrev pub item : ℕ → ℕ → Held → Item
 item p q x = record { from = p; upto = q; held = x }
 
--- levels of blocks that are allowed under a header's run; a level is document 01's term, the standard numbers the chunks and has no bound
+-- levels of blocks that are allowed under a header's run; a level is document 01's term, the standard has continuation blocks and no bound (IV.A.2.q)
 abbrev pub blockLevels : ℕ
 blockLevels = 25
 
