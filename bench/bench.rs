@@ -10,10 +10,10 @@ use std::path::Path;
 use std::process::ExitCode;
 use std::time::Instant;
 
-use sides::door::{self, Outcome, rust_answer, rust_data_object};
 use sides::input::{Input, put};
 use sides::port::{Outcome as PortOutcome, Port};
 use sides::real;
+use sides::rust::{self, Outcome, rust_answer, rust_data_object};
 
 const LEVELS: usize = 25;
 const ENTRIES: usize = 4096;
@@ -207,7 +207,7 @@ fn time(input: &Input) {
 }
 
 fn entries(input: &Input) {
-    door::open();
+    rust::open();
     match rust_answer(input).outcome {
         Outcome::Read(header) => println!("{}", header.entries),
         _ => println!("refused"),

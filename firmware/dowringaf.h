@@ -223,8 +223,8 @@ dowringaf_part dowringaf_layout_data(const uint8_t *file, size_t file_bytes, siz
  * Writes the listing of an input at the start of out, and yields its length. The input is the
  * width of offsets and of lengths (a byte each), the end-of-file address and the header's position
  * (8 bytes each, lowest byte first), and then the file, at most 65,536 bytes in all. The listing
- * has a line for each row, at most 512 rows, and a last line, or `refused,` and a number. What the
- * bytes of out after it hold is not said.
+ * has a line for each row, at most 512 rows, and a last line, or `refused,` and a number. The bytes
+ * of out after it are left as they were.
  */
 size_t dowringaf_list(const uint8_t *input, size_t input_bytes, uint8_t out[DOWRINGAF_LISTING]);
 

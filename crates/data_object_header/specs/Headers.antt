@@ -32,6 +32,7 @@ headerFields =
     done {A = HeaderFields} (record { flags = flags; size = size })))))))))
 
 -- A reading of a header at a position: its fields, a run from there within the chunk end, and what closes it. Its end is `next`.
+-- Reading is document 01's term; the standard's is version 2 object header, with its prefix and chunk #0 (IV.A.1.b).
 pub record HeaderReading (file : List ℕ) (s : State) (at next : ℕ) (xs : List Item) : Type 0 where
   pub fields : HeaderFields
   pub start : ℕ

@@ -158,6 +158,6 @@ unfoldable pub dataType : ℕ → Format DataType
 dataType zero = refuse 22
 dataType (suc levels) = typeLayer (dataType levels)
 
--- levels of types that are allowed
+-- levels of types that are allowed; a level is document 01's term, the standard has types in types and no bound (IV.A.2.d)
 abbrev pub typeLevels : ℕ
 typeLevels = 32

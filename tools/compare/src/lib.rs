@@ -2,13 +2,13 @@
 //! form, and the report that is compared.
 
 pub mod answer;
-pub mod door;
 pub mod generate;
 mod hdf;
 pub mod input;
 pub mod port;
 pub mod random;
 pub mod real;
+pub mod rust;
 pub mod scan;
 
 /// The crates, the sources and the archive that this program was built of.

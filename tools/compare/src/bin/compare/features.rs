@@ -1,8 +1,8 @@
 //! What an input shows: labels by which the stored inputs are chosen and named.
 
 use sides::answer::{Header, Row};
-use sides::door::Entry;
 use sides::input::{Input, get};
+use sides::rust::Entry;
 
 /// A group, which names the stored input, and what is shown in it.
 #[derive(Clone, Debug, PartialEq, Eq, PartialOrd, Ord, Hash)]

@@ -1,9 +1,9 @@
 //! One input: both answers, and what the comparison says of them.
 
 use sides::answer::{Header, REFUSED};
-use sides::door::{self, Entry, rust_answer};
 use sides::input::Input;
 use sides::port::{self, Port};
+use sides::rust::{self, Entry, rust_answer};
 use sides::scan::{self, Outside};
 
 use crate::breakage::Breakage;
@@ -63,7 +63,7 @@ impl Judge {
             };
         }
         let rust = rust_answer(input);
-        if let door::Outcome::Panicked(message) = rust.outcome {
+        if let rust::Outcome::Panicked(message) = rust.outcome {
             return Verdict::Panicked(message, port_text(&port));
         }
         if let Some(exclusion) = attributes_outside(input, &rust.entries) {
@@ -74,9 +74,9 @@ impl Judge {
 }
 
 /// The verdict on two answers.
-fn compared(input: &Input, port: port::Outcome, rust: door::Answer) -> Verdict {
+fn compared(input: &Input, port: port::Outcome, rust: rust::Answer) -> Verdict {
     match (port, rust.outcome) {
-        (port::Outcome::Read(header), door::Outcome::Read(other)) => {
+        (port::Outcome::Read(header), rust::Outcome::Read(other)) => {
             let (ours, theirs) = (header.report(), other.report());
             if ours == theirs {
                 return Verdict::Accepted(header);
@@ -89,19 +89,19 @@ fn compared(input: &Input, port: port::Outcome, rust: door::Answer) -> Verdict {
             }
             Verdict::Differs(format!("refused {number}"), rust_text(&outcome))
         }
-        (port::Outcome::Refused(number), door::Outcome::Refused) => Verdict::Refused(number),
+        (port::Outcome::Refused(number), rust::Outcome::Refused) => Verdict::Refused(number),
         (port, outcome) => Verdict::Differs(port_text(&port), rust_text(&outcome)),
     }
 }
 
 /// Whether a number that ends the comparison is borne out by what the Rust read up to there.
-fn deserved(number: u64, input: &Input, rust: &door::Outcome, entries: &[Entry]) -> bool {
+fn deserved(number: u64, input: &Input, rust: &rust::Outcome, entries: &[Entry]) -> bool {
     let chunked = |body: usize| input.file.get(body..body + 2) == Some(&[3, 2]);
     let mut entries = entries.iter();
     match number {
         14 => entries.any(|e| e.kind == LAYOUT && chunked(e.body)),
         22 => entries.any(|e| e.kind == DATA_TYPE && scan::type_too_deep(input, e.body)),
-        23 => matches!(rust, door::Outcome::TooMany),
+        23 => matches!(rust, rust::Outcome::TooMany),
         2 => input.file.len() > 1 << 31,
         _ => false,
     }
@@ -127,11 +127,11 @@ fn port_text(outcome: &port::Outcome) -> String {
     }
 }
 
-fn rust_text(outcome: &door::Outcome) -> String {
+fn rust_text(outcome: &rust::Outcome) -> String {
     match outcome {
-        door::Outcome::Read(header) => text(&header.report()),
-        door::Outcome::Refused => text(REFUSED),
-        door::Outcome::TooMany => "reads a 4,097th entry\n".into(),
-        door::Outcome::Panicked(message) => format!("panics: {message}\n"),
+        rust::Outcome::Read(header) => text(&header.report()),
+        rust::Outcome::Refused => text(REFUSED),
+        rust::Outcome::TooMany => "reads a 4,097th entry\n".into(),
+        rust::Outcome::Panicked(message) => format!("panics: {message}\n"),
     }
 }

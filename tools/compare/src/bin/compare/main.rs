@@ -22,9 +22,9 @@ fn main() -> ExitCode {
             return ExitCode::from(2);
         }
     };
-    sides::door::open();
+    sides::rust::open();
     let worker = std::thread::Builder::new()
-        .stack_size(sides::door::STACK)
+        .stack_size(sides::rust::STACK)
         .spawn(move || perform(&arguments))
         .expect("a thread");
     match worker.join() {

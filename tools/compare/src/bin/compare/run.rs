@@ -7,10 +7,10 @@ use std::thread::Builder;
 use std::time::Instant;
 
 use sides::answer::Header;
-use sides::door::STACK;
 use sides::generate::{BATCH, batch, large};
 use sides::input::Input;
 use sides::real;
+use sides::rust::STACK;
 
 use crate::arguments::Arguments;
 use crate::judge::{Exclusion, Judge, Verdict};

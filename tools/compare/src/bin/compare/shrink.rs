@@ -2,8 +2,8 @@
 
 use std::ops::Range;
 
-use sides::door::{Entry, rust_answer};
 use sides::input::{Input, get};
+use sides::rust::{Entry, rust_answer};
 
 /// Bytes that are tried at most, and what a try costs beside its bytes.
 const WORK: usize = 200_000_000;

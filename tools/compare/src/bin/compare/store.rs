@@ -5,11 +5,11 @@ use std::io;
 use std::path::Path;
 
 use sides::answer::REFUSED;
-use sides::door::{self, rust_answer};
 use sides::generate::{BATCH, batch};
 use sides::input::Input;
 use sides::random::Random;
 use sides::real;
+use sides::rust::{self, rust_answer};
 
 use crate::arguments::Arguments;
 use crate::features::{Feature, of_header, of_refusal};
@@ -125,7 +125,7 @@ fn ranked(shown: &Shown, seed: u64) -> Vec<(&Feature, &Input)> {
 /// The Rust's answer.
 fn report(input: &Input) -> Vec<u8> {
     match rust_answer(input).outcome {
-        door::Outcome::Read(header) => header.report(),
+        rust::Outcome::Read(header) => header.report(),
         _ => REFUSED.to_vec(),
     }
 }
