@@ -165,15 +165,19 @@ fn message_entry(
                 rows,
                 entries: begun,
             };
-            let last = match message_block(
-                file,
-                table,
-                header,
-                limits,
-                first,
-                whole - 4,
-                levels - 1,
-            ) {
+            // Made anew here alone: a struct that is handed on is copied for every entry.
+            let state = header.state;
+            let beyond = limits.beyond;
+            let inner = Header {
+                state,
+                flags: header.flags,
+            };
+            let left = Limits {
+                entries: limits.entries,
+                beyond,
+                rows: limits.rows,
+            };
+            let last = match message_block(file, table, inner, left, first, whole - 4, levels - 1) {
                 Walk::Done(p) => p,
                 Walk::Refused(r, n) => {
                     return Walk::Refused(r, n);

@@ -60,7 +60,7 @@ message-block-Inv-loop file table₀ header limits end levels prefix progress₀
 abbrev message-block-μ-loop : message-block-lts.MeasureT-loop
 message-block-μ-loop file table₀ header limits end levels prefix progress₀ table progress = limits .entries - progress .entries
 
--- src/lib.rt:207:9
+-- src/lib.rt:220:9
 message-block-message-prefix-size-requires :
     (t : ℕ) → message-block-lts.Need-message-prefix-size-requires (
       message-prefix-size-reads.Asked,
@@ -70,7 +70,7 @@ message-block-message-prefix-size-requires :
     ) (message-block-at t) message-block.Post message-block-Inv-loop message-block-μ-loop
 message-block-message-prefix-size-requires t c κs = search needs
 
--- src/lib.rt:209:5
+-- src/lib.rt:222:5
 message-block-loop-holds : (t : ℕ) → message-block-lts.Need-loop-holds (
   message-prefix-size-reads.Asked,
   message-prefix-size-reads.Learnt,
@@ -79,7 +79,7 @@ message-block-loop-holds : (t : ℕ) → message-block-lts.Need-loop-holds (
 ) (message-block-at t) message-block.Post message-block-Inv-loop message-block-μ-loop
 message-block-loop-holds t c = record { same = refl; few = c .before .before .before .pre .1 .4; fewer = c .before .before .before .pre .1 .2; inside = c .before .before .before .pre .1 .5; long = refl }
 
--- src/lib.rt:209:11
+-- src/lib.rt:222:11
 message-block-add-if1 : (t : ℕ) → message-block-lts.Need-add-if1 (
   message-prefix-size-reads.Asked,
   message-prefix-size-reads.Learnt,
@@ -88,7 +88,7 @@ message-block-add-if1 : (t : ℕ) → message-block-lts.Need-add-if1 (
 ) (message-block-at t) message-block.Post message-block-Inv-loop message-block-μ-loop
 message-block-add-if1 t c = omega (arith, prefix-small (c .before .before .before .before .before .args .header .flags), c .before .before .message-prefix-size .ensures, c .before .loop .inv .inside)
 
--- src/lib.rt:210:15
+-- src/lib.rt:223:15
 message-block-message-entry-requires : (t : ℕ) → message-block-lts.Need-message-entry-requires (
   message-prefix-size-reads.Asked,
   message-prefix-size-reads.Learnt,
@@ -97,7 +97,7 @@ message-block-message-entry-requires : (t : ℕ) → message-block-lts.Need-mess
 ) (message-block-at t) message-block.Post message-block-Inv-loop message-block-μ-loop
 message-block-message-entry-requires t c κs = let p = c .before .before .before .before .before .before .before .pre .1 in (omega (arith, c .before .before .before .before .before .before .before .pre .0), (p .0, p .1, c .before .before .before .loop .inv .fewer, omega (arith, c .before .before .before .loop .inv .long, p .3)))
 
--- src/lib.rt:211:27
+-- src/lib.rt:224:27
 message-block-enum-known-r : (t : ℕ) → message-block-lts.Need-enum-known-r (
   message-prefix-size-reads.Asked,
   message-prefix-size-reads.Learnt,
@@ -106,7 +106,7 @@ message-block-enum-known-r : (t : ℕ) → message-block-lts.Need-enum-known-r (
 ) (message-block-at t) message-block.Post message-block-Inv-loop message-block-μ-loop
 message-block-enum-known-r t c = search needs
 
--- src/lib.rt:212:17
+-- src/lib.rt:225:17
 message-block-same-length : (t : ℕ) → message-block-lts.Need-same-length (
   message-prefix-size-reads.Asked,
   message-prefix-size-reads.Learnt,
@@ -115,7 +115,7 @@ message-block-same-length : (t : ℕ) → message-block-lts.Need-same-length (
 ) (message-block-at t) message-block.Post message-block-Inv-loop message-block-μ-loop
 message-block-same-length t c = search needs
 
--- src/lib.rt:212:17
+-- src/lib.rt:225:17
 message-block-returns : (t : ℕ) → message-block-lts.Need-returns (
   message-prefix-size-reads.Asked,
   message-prefix-size-reads.Learnt,
@@ -124,7 +124,7 @@ message-block-returns : (t : ℕ) → message-block-lts.Need-returns (
 ) (message-block-at t) message-block.Post message-block-Inv-loop message-block-μ-loop
 message-block-returns t c = sym (stops (c .before .before .before .before .before .before .before .before .before .loop .inv) (rw (c .before .before .before .before .before .before .before .before .before .before .message-prefix-size .ensures) at (c .before .before .before .before .before .before .before .if1 .taken)) (c .before .before .before .before .before .message-entry .last .1 .0) (c .before .before .before .before .before .message-entry .ensures) (c .before .r .given .1))
 
--- src/lib.rt:214:24
+-- src/lib.rt:227:24
 message-block-enum-known-p : (t : ℕ) → message-block-lts.Need-enum-known-p (
   message-prefix-size-reads.Asked,
   message-prefix-size-reads.Learnt,
@@ -133,7 +133,7 @@ message-block-enum-known-p : (t : ℕ) → message-block-lts.Need-enum-known-p (
 ) (message-block-at t) message-block.Post message-block-Inv-loop message-block-μ-loop
 message-block-enum-known-p t c = search needs
 
--- src/lib.rt:209:5
+-- src/lib.rt:222:5
 message-block-loop-less : (t : ℕ) → message-block-lts.Need-loop-less (
   message-prefix-size-reads.Asked,
   message-prefix-size-reads.Learnt,
@@ -142,7 +142,7 @@ message-block-loop-less : (t : ℕ) → message-block-lts.Need-loop-less (
 ) (message-block-at t) message-block.Post message-block-Inv-loop message-block-μ-loop
 message-block-loop-less t c = shrinks (c .before .before .before .before .before .before .before .before .before .loop .inv) (rw (c .before .before .before .before .before .before .before .before .before .before .message-prefix-size .ensures) at (c .before .before .before .before .before .before .before .if1 .taken)) (c .before .before .before .before .before .message-entry .last .1 .0) (c .before .before .before .before .before .before .before .before .before .before .before .before .before .pre .1 .1) (c .before .before .before .before .before .message-entry .ensures) (c .before .p .given .1)
 
--- src/lib.rt:209:5
+-- src/lib.rt:222:5
 message-block-loop-again : (t : ℕ) → message-block-lts.Need-loop-again (
   message-prefix-size-reads.Asked,
   message-prefix-size-reads.Learnt,
@@ -151,7 +151,7 @@ message-block-loop-again : (t : ℕ) → message-block-lts.Need-loop-again (
 ) (message-block-at t) message-block.Post message-block-Inv-loop message-block-μ-loop
 message-block-loop-again t c = goes (c .before .before .before .before .before .before .before .before .before .loop .inv) (rw (c .before .before .before .before .before .before .before .before .before .before .message-prefix-size .ensures) at (c .before .before .before .before .before .before .before .if1 .taken)) (c .before .before .before .before .before .message-entry .last .1 .0) (c .before .before .before .before .before .before .before .before .before .before .before .before .before .pre .1 .1) (c .before .before .before .before .before .message-entry .ensures) (c .before .p .given .1) (c .before .before .before .before .before .message-entry .kept .1 .0)
 
--- src/lib.rt:195:1
+-- src/lib.rt:208:1
 message-block-same-length-2 : (t : ℕ) → message-block-lts.Need-same-length-2 (
   message-prefix-size-reads.Asked,
   message-prefix-size-reads.Learnt,
@@ -160,7 +160,7 @@ message-block-same-length-2 : (t : ℕ) → message-block-lts.Need-same-length-2
 ) (message-block-at t) message-block.Post message-block-Inv-loop message-block-μ-loop
 message-block-same-length-2 t c = search needs
 
--- src/lib.rt:195:1
+-- src/lib.rt:208:1
 message-block-returns-2 : (t : ℕ) → message-block-lts.Need-returns-2 (
   message-prefix-size-reads.Asked,
   message-prefix-size-reads.Learnt,
@@ -169,7 +169,7 @@ message-block-returns-2 : (t : ℕ) → message-block-lts.Need-returns-2 (
 ) (message-block-at t) message-block.Post message-block-Inv-loop message-block-μ-loop
 message-block-returns-2 t c = sym (ends (c .before .before .loop .inv) (rw (c .before .before .before .message-prefix-size .ensures) at (c .if1 .left)))
 
--- src/lib.rt:135:9
+-- src/lib.rt:136:9
 message-entry-returns : (t : ℕ) → message-entry-lts.Need-returns (
   entry-alone-reads.Asked,
   entry-alone-reads.Learnt,
@@ -184,7 +184,7 @@ message-entry-returns : (t : ℕ) → message-entry-lts.Need-returns (
 ) (message-entry-at t) message-entry.Post
 message-entry-returns t c = let a = (c .before .before .before .before .args) in many (a .file .now) (a .header) (a .limits) (a .levels) (a .from) (a .table .now) (c .if1 .taken)
 
--- src/lib.rt:137:17
+-- src/lib.rt:138:17
 message-entry-add-begun : (t : ℕ) → message-entry-lts.Need-add-begun (
   entry-alone-reads.Asked,
   entry-alone-reads.Learnt,
@@ -199,7 +199,7 @@ message-entry-add-begun : (t : ℕ) → message-entry-lts.Need-add-begun (
 ) (message-entry-at t) message-entry.Post
 message-entry-add-begun t c = search needs
 
--- src/lib.rt:138:11
+-- src/lib.rt:139:11
 message-entry-entry-alone-requires : (t : ℕ) → message-entry-lts.Need-entry-alone-requires (
   entry-alone-reads.Asked,
   entry-alone-reads.Learnt,
@@ -214,7 +214,7 @@ message-entry-entry-alone-requires : (t : ℕ) → message-entry-lts.Need-entry-
 ) (message-entry-at t) message-entry.Post
 message-entry-entry-alone-requires t c κs = c .before .before .before .before .pre .1 .0
 
--- src/lib.rt:139:28
+-- src/lib.rt:140:28
 message-entry-enum-known-r : (t : ℕ) → message-entry-lts.Need-enum-known-r (
   entry-alone-reads.Asked,
   entry-alone-reads.Learnt,
@@ -229,7 +229,7 @@ message-entry-enum-known-r : (t : ℕ) → message-entry-lts.Need-enum-known-r (
 ) (message-entry-at t) message-entry.Post
 message-entry-enum-known-r t c = search needs
 
--- src/lib.rt:140:28
+-- src/lib.rt:141:28
 message-entry-enum-known-row : (t : ℕ) → message-entry-lts.Need-enum-known-row (
   entry-alone-reads.Asked,
   entry-alone-reads.Learnt,
@@ -244,7 +244,7 @@ message-entry-enum-known-row : (t : ℕ) → message-entry-lts.Need-enum-known-r
 ) (message-entry-at t) message-entry.Post
 message-entry-enum-known-row t c = search needs
 
--- src/lib.rt:141:17
+-- src/lib.rt:142:17
 message-entry-keep-row-requires : (t : ℕ) → message-entry-lts.Need-keep-row-requires (
   entry-alone-reads.Asked,
   entry-alone-reads.Learnt,
@@ -259,7 +259,7 @@ message-entry-keep-row-requires : (t : ℕ) → message-entry-lts.Need-keep-row-
 ) (message-entry-at t) message-entry.Post
 message-entry-keep-row-requires t c κs = c .before .before .before .before .before .before .before .before .before .pre .1 .3
 
--- src/lib.rt:142:17
+-- src/lib.rt:143:17
 message-entry-same-length : (t : ℕ) → message-entry-lts.Need-same-length (
   entry-alone-reads.Asked,
   entry-alone-reads.Learnt,
@@ -274,7 +274,7 @@ message-entry-same-length : (t : ℕ) → message-entry-lts.Need-same-length (
 ) (message-entry-at t) message-entry.Post
 message-entry-same-length t c = search needs
 
--- src/lib.rt:142:17
+-- src/lib.rt:143:17
 message-entry-returns-2 : (t : ℕ) → message-entry-lts.Need-returns-2 (
   entry-alone-reads.Asked,
   entry-alone-reads.Learnt,
@@ -289,8 +289,8 @@ message-entry-returns-2 : (t : ℕ) → message-entry-lts.Need-returns-2 (
 ) (message-entry-at t) message-entry.Post
 message-entry-returns-2 t c = let a = (c .before .before .before .before .before .before .before .before .before .before .before .before .before .args) in full (a .file .now) (a .header) (a .limits) (a .levels) (a .from) (a .table .now) (c .before .before .before .before .before .before .before .before .before .if1 .left) (c .before .before .before .before .before .before .before .before .entry-alone .ensures) (c .before .before .before .before .before .before .row .given .1) (c .before .before .before .keep-row .ensures .0) (not-true (c .before .before .before .keep-row .result) (c .if2 .taken))
 
--- src/lib.rt:146:23
-message-entry-add-t36 : (t : ℕ) → message-entry-lts.Need-add-t36 (
+-- src/lib.rt:147:23
+message-entry-add-t40 : (t : ℕ) → message-entry-lts.Need-add-t40 (
   entry-alone-reads.Asked,
   entry-alone-reads.Learnt,
   keep-row-reads.Asked,
@@ -302,9 +302,9 @@ message-entry-add-t36 : (t : ℕ) → message-entry-lts.Need-add-t36 (
   block-end-reads.Asked,
   block-end-reads.Learnt,
 ) (message-entry-at t) message-entry.Post
-message-entry-add-t36 t c = omega (arith, c .before .before .before .before .before .before .before .before .before .before .before .before .before .pre .1 .2)
+message-entry-add-t40 t c = search needs
 
--- src/lib.rt:150:33
+-- src/lib.rt:151:33
 message-entry-enum-known-block : (t : ℕ) → message-entry-lts.Need-enum-known-block (
   entry-alone-reads.Asked,
   entry-alone-reads.Learnt,
@@ -319,7 +319,7 @@ message-entry-enum-known-block : (t : ℕ) → message-entry-lts.Need-enum-known
 ) (message-entry-at t) message-entry.Post
 message-entry-enum-known-block t c = search needs
 
--- src/lib.rt:152:17
+-- src/lib.rt:153:17
 message-entry-returns-3 : (t : ℕ) → message-entry-lts.Need-returns-3 (
   entry-alone-reads.Asked,
   entry-alone-reads.Learnt,
@@ -334,7 +334,7 @@ message-entry-returns-3 : (t : ℕ) → message-entry-lts.Need-returns-3 (
 ) (message-entry-at t) message-entry.Post
 message-entry-returns-3 t c = let a = (c .before .before .before .before .before .before .before .before .before .args) in deep (a .file .now) (a .header) (a .limits) (a .levels) (a .from) (a .table .now) (c .before .before .before .before .before .if1 .left) (c .before .before .before .before .entry-alone .ensures) (c .before .before .block .given .1) (c .if3 .taken)
 
--- src/lib.rt:155:25
+-- src/lib.rt:156:25
 message-entry-add-whole : (t : ℕ) → message-entry-lts.Need-add-whole (
   entry-alone-reads.Asked,
   entry-alone-reads.Learnt,
@@ -349,7 +349,7 @@ message-entry-add-whole : (t : ℕ) → message-entry-lts.Need-add-whole (
 ) (message-entry-at t) message-entry.Post
 message-entry-add-whole t c = let a = (c .before .before .before .before .before .before .before .before .before .args) in let k = ranged (a .file .now) (a .header) (a .limits) (a .levels) (a .from) (a .table .now) (c .before .before .before .before .before .if1 .left) (c .before .before .before .before .entry-alone .ensures) (c .before .before .block .given .1) in omega (arith, k .within)
 
--- src/lib.rt:156:31
+-- src/lib.rt:157:31
 message-entry-signature-requires : (t : ℕ) → message-entry-lts.Need-signature-requires (
   entry-alone-reads.Asked,
   entry-alone-reads.Learnt,
@@ -364,7 +364,7 @@ message-entry-signature-requires : (t : ℕ) → message-entry-lts.Need-signatur
 ) (message-entry-at t) message-entry.Post
 message-entry-signature-requires t c κs = search needs
 
--- src/lib.rt:157:27
+-- src/lib.rt:158:27
 message-entry-enum-known-p : (t : ℕ) → message-entry-lts.Need-enum-known-p (
   entry-alone-reads.Asked,
   entry-alone-reads.Learnt,
@@ -379,7 +379,7 @@ message-entry-enum-known-p : (t : ℕ) → message-entry-lts.Need-enum-known-p (
 ) (message-entry-at t) message-entry.Post
 message-entry-enum-known-p t c = search needs
 
--- src/lib.rt:158:32
+-- src/lib.rt:159:32
 message-entry-enum-known-r-2 : (t : ℕ) → message-entry-lts.Need-enum-known-r-2 (
   entry-alone-reads.Asked,
   entry-alone-reads.Learnt,
@@ -394,7 +394,7 @@ message-entry-enum-known-r-2 : (t : ℕ) → message-entry-lts.Need-enum-known-r
 ) (message-entry-at t) message-entry.Post
 message-entry-enum-known-r-2 t c = search needs
 
--- src/lib.rt:159:21
+-- src/lib.rt:160:21
 message-entry-returns-4 : (t : ℕ) → message-entry-lts.Need-returns-4 (
   entry-alone-reads.Asked,
   entry-alone-reads.Learnt,
@@ -409,7 +409,7 @@ message-entry-returns-4 : (t : ℕ) → message-entry-lts.Need-returns-4 (
 ) (message-entry-at t) message-entry.Post
 message-entry-returns-4 t c = let a = (c .before .before .before .before .before .before .before .before .before .before .before .before .before .args) in unsigned (a .file .now) (a .header) (a .limits) (a .levels) (a .from) (a .table .now) (c .before .before .before .before .before .before .before .before .before .if1 .left) (c .before .before .before .before .before .before .before .before .entry-alone .ensures) (c .before .before .before .before .before .before .block .given .1) (c .before .before .before .before .if3 .left) (c .before .before .before .signature .ensures) (c .before .r2 .given .1)
 
--- src/lib.rt:173:17
+-- src/lib.rt:186:17
 message-entry-sub-message-block : (t : ℕ) → message-entry-lts.Need-sub-message-block (
   entry-alone-reads.Asked,
   entry-alone-reads.Learnt,
@@ -422,9 +422,9 @@ message-entry-sub-message-block : (t : ℕ) → message-entry-lts.Need-sub-messa
   block-end-reads.Asked,
   block-end-reads.Learnt,
 ) (message-entry-at t) message-entry.Post
-message-entry-sub-message-block t c = let a = (c .before .before .before .before .before .before .before .before .before .before .before .before .before .before .args) in let k = ranged (a .file .now) (a .header) (a .limits) (a .levels) (a .from) (a .table .now) (c .before .before .before .before .before .before .before .before .before .before .if1 .left) (c .before .before .before .before .before .before .before .before .before .entry-alone .ensures) (c .before .before .before .before .before .before .before .block .given .1) in omega (arith, k .least)
+message-entry-sub-message-block t c = let a = (c .before .before .before .before .before .before .before .before .before .before .before .before .before .before .before .args) in let k = ranged (a .file .now) (a .header) (a .limits) (a .levels) (a .from) (a .table .now) (c .before .before .before .before .before .before .before .before .before .before .before .if1 .left) (c .before .before .before .before .before .before .before .before .before .before .entry-alone .ensures) (c .before .before .before .before .before .before .before .before .block .given .1) in omega (arith, k .least)
 
--- src/lib.rt:174:17
+-- src/lib.rt:187:17
 message-entry-sub-message-block-2 : (t : ℕ) → message-entry-lts.Need-sub-message-block-2 (
   entry-alone-reads.Asked,
   entry-alone-reads.Learnt,
@@ -439,7 +439,7 @@ message-entry-sub-message-block-2 : (t : ℕ) → message-entry-lts.Need-sub-mes
 ) (message-entry-at t) message-entry.Post
 message-entry-sub-message-block-2 t c = search needs
 
--- src/lib.rt:167:30
+-- src/lib.rt:180:30
 message-entry-message-block-requires : (t : ℕ) → message-entry-lts.Need-message-block-requires (
   entry-alone-reads.Asked,
   entry-alone-reads.Learnt,
@@ -452,9 +452,9 @@ message-entry-message-block-requires : (t : ℕ) → message-entry-lts.Need-mess
   block-end-reads.Asked,
   block-end-reads.Learnt,
 ) (message-entry-at t) message-entry.Post
-message-entry-message-block-requires t c κs = let a = (c .before .before .before .before .before .before .before .before .before .before .before .before .before .before .args) in let p = c .before .before .before .before .before .before .before .before .before .before .before .before .before .before .pre .1 in (omega (arith, c .before .before .before .before .before .before .before .before .before .before .before .before .before .before .pre .0, c .before .before .before .before .before .if3 .left), (p .0, omega (arith, p .1), omega (arith, p .2), p .3, omega (arith, c .before .before .before .before .before .before .before .before .before .before .if1 .left), starts-inside (a .file .now) (a .header) (a .limits) (a .levels) (a .from) (a .table .now) (c .before .before .before .before .before .before .before .before .before .before .if1 .left) (c .before .before .before .before .before .before .before .before .before .entry-alone .ensures) (c .before .before .before .before .before .before .before .block .given .1) (c .before .before .before .before .before .if3 .left) (c .before .before .before .before .signature .ensures) (c .before .before .p .given .1)))
+message-entry-message-block-requires t c κs = let a = (c .before .before .before .before .before .before .before .before .before .before .before .before .before .before .before .args) in let p = c .before .before .before .before .before .before .before .before .before .before .before .before .before .before .before .pre .1 in (omega (arith, c .before .before .before .before .before .before .before .before .before .before .before .before .before .before .before .pre .0, c .before .before .before .before .before .before .if3 .left), (p .0, omega (arith, p .1), omega (arith, p .2), p .3, omega (arith, c .before .before .before .before .before .before .before .before .before .before .before .if1 .left), starts-inside (a .file .now) (a .header) (a .limits) (a .levels) (a .from) (a .table .now) (c .before .before .before .before .before .before .before .before .before .before .before .if1 .left) (c .before .before .before .before .before .before .before .before .before .before .entry-alone .ensures) (c .before .before .before .before .before .before .before .before .block .given .1) (c .before .before .before .before .before .before .if3 .left) (c .before .before .before .before .before .signature .ensures) (c .before .before .before .p .given .1)))
 
--- src/lib.rt:176:28
+-- src/lib.rt:189:28
 message-entry-enum-known-p-2 : (t : ℕ) → message-entry-lts.Need-enum-known-p-2 (
   entry-alone-reads.Asked,
   entry-alone-reads.Learnt,
@@ -469,7 +469,7 @@ message-entry-enum-known-p-2 : (t : ℕ) → message-entry-lts.Need-enum-known-p
 ) (message-entry-at t) message-entry.Post
 message-entry-enum-known-p-2 t c = search needs
 
--- src/lib.rt:177:31
+-- src/lib.rt:190:31
 message-entry-enum-known-r-3 : (t : ℕ) → message-entry-lts.Need-enum-known-r-3 (
   entry-alone-reads.Asked,
   entry-alone-reads.Learnt,
@@ -484,7 +484,7 @@ message-entry-enum-known-r-3 : (t : ℕ) → message-entry-lts.Need-enum-known-r
 ) (message-entry-at t) message-entry.Post
 message-entry-enum-known-r-3 t c = search needs
 
--- src/lib.rt:178:21
+-- src/lib.rt:191:21
 message-entry-same-length-2 : (t : ℕ) → message-entry-lts.Need-same-length-2 (
   entry-alone-reads.Asked,
   entry-alone-reads.Learnt,
@@ -499,7 +499,7 @@ message-entry-same-length-2 : (t : ℕ) → message-entry-lts.Need-same-length-2
 ) (message-entry-at t) message-entry.Post
 message-entry-same-length-2 t c = search needs
 
--- src/lib.rt:178:21
+-- src/lib.rt:191:21
 message-entry-returns-5 : (t : ℕ) → message-entry-lts.Need-returns-5 (
   entry-alone-reads.Asked,
   entry-alone-reads.Learnt,
@@ -512,9 +512,9 @@ message-entry-returns-5 : (t : ℕ) → message-entry-lts.Need-returns-5 (
   block-end-reads.Asked,
   block-end-reads.Learnt,
 ) (message-entry-at t) message-entry.Post
-message-entry-returns-5 t c = let a = (c .before .before .before .before .before .before .before .before .before .before .before .before .before .before .before .before .before .before .before .before .args) in unrun (a .file .now) (a .header) (a .limits) (a .levels) (a .from) (a .table .now) (c .before .before .before .before .before .before .before .before .before .before .before .before .before .before .before .before .if1 .left) (c .before .before .before .before .before .before .before .before .before .before .before .before .before .before .before .entry-alone .ensures) (c .before .before .before .before .before .before .before .before .before .before .before .before .before .block .given .1) (c .before .before .before .before .before .before .before .before .before .before .before .if3 .left) (c .before .before .before .before .before .before .before .before .before .before .signature .ensures) (c .before .before .before .before .before .before .before .before .p .given .1) (c .before .before .before .before .before .message-block .last .1 .0) (c .before .before .before .before .before .message-block .ensures) (c .before .r3 .given .1)
+message-entry-returns-5 t c = let a = (c .before .before .before .before .before .before .before .before .before .before .before .before .before .before .before .before .before .before .before .before .before .args) in unrun (a .file .now) (a .header) (a .limits) (a .levels) (a .from) (a .table .now) (c .before .before .before .before .before .before .before .before .before .before .before .before .before .before .before .before .before .if1 .left) (c .before .before .before .before .before .before .before .before .before .before .before .before .before .before .before .before .entry-alone .ensures) (c .before .before .before .before .before .before .before .before .before .before .before .before .before .before .block .given .1) (c .before .before .before .before .before .before .before .before .before .before .before .before .if3 .left) (c .before .before .before .before .before .before .before .before .before .before .before .signature .ensures) (c .before .before .before .before .before .before .before .before .before .p .given .1) (c .before .before .before .before .before .message-block .last .1 .0) (c .before .before .before .before .before .message-block .ensures) (c .before .r3 .given .1)
 
--- src/lib.rt:181:19
+-- src/lib.rt:194:19
 message-entry-block-end-requires : (t : ℕ) → message-entry-lts.Need-block-end-requires (
   entry-alone-reads.Asked,
   entry-alone-reads.Learnt,
@@ -527,9 +527,9 @@ message-entry-block-end-requires : (t : ℕ) → message-entry-lts.Need-block-en
   block-end-reads.Asked,
   block-end-reads.Learnt,
 ) (message-entry-at t) message-entry.Post
-message-entry-block-end-requires t c κs = let a = (c .before .before .before .before .before .before .before .before .before .before .before .before .before .before .before .before .before .before .before .before .args) in let k = ranged (a .file .now) (a .header) (a .limits) (a .levels) (a .from) (a .table .now) (c .before .before .before .before .before .before .before .before .before .before .before .before .before .before .before .before .if1 .left) (c .before .before .before .before .before .before .before .before .before .before .before .before .before .before .before .entry-alone .ensures) (c .before .before .before .before .before .before .before .before .before .before .before .before .before .block .given .1) in omega (arith, k .least)
+message-entry-block-end-requires t c κs = let a = (c .before .before .before .before .before .before .before .before .before .before .before .before .before .before .before .before .before .before .before .before .before .args) in let k = ranged (a .file .now) (a .header) (a .limits) (a .levels) (a .from) (a .table .now) (c .before .before .before .before .before .before .before .before .before .before .before .before .before .before .before .before .before .if1 .left) (c .before .before .before .before .before .before .before .before .before .before .before .before .before .before .before .before .entry-alone .ensures) (c .before .before .before .before .before .before .before .before .before .before .before .before .before .before .block .given .1) in omega (arith, k .least)
 
--- src/lib.rt:182:32
+-- src/lib.rt:195:32
 message-entry-enum-known-r-4 : (t : ℕ) → message-entry-lts.Need-enum-known-r-4 (
   entry-alone-reads.Asked,
   entry-alone-reads.Learnt,
@@ -544,7 +544,7 @@ message-entry-enum-known-r-4 : (t : ℕ) → message-entry-lts.Need-enum-known-r
 ) (message-entry-at t) message-entry.Post
 message-entry-enum-known-r-4 t c = search needs
 
--- src/lib.rt:183:44
+-- src/lib.rt:196:44
 message-entry-enum-told : (t : ℕ) → message-entry-lts.Need-enum-told (
   entry-alone-reads.Asked,
   entry-alone-reads.Learnt,
@@ -559,7 +559,7 @@ message-entry-enum-told : (t : ℕ) → message-entry-lts.Need-enum-told (
 ) (message-entry-at t) message-entry.Post
 message-entry-enum-told t c = search needs
 
--- src/lib.rt:119:1
+-- src/lib.rt:120:1
 message-entry-returns-6 : (t : ℕ) → message-entry-lts.Need-returns-6 (
   entry-alone-reads.Asked,
   entry-alone-reads.Learnt,
@@ -574,7 +574,7 @@ message-entry-returns-6 : (t : ℕ) → message-entry-lts.Need-returns-6 (
 ) (message-entry-at t) message-entry.Post
 message-entry-returns-6 t c = let a = (c .before .before .before .before .before .before .before .before .args) in unread (a .file .now) (a .header) (a .limits) (a .levels) (a .from) (a .table .now) (c .before .before .before .before .if1 .left) (c .before .before .before .entry-alone .ensures) (c .before .r .given .1)
 
--- src/lib.rt:119:1
+-- src/lib.rt:120:1
 message-entry-same-length-3 : (t : ℕ) → message-entry-lts.Need-same-length-3 (
   entry-alone-reads.Asked,
   entry-alone-reads.Learnt,
@@ -589,7 +589,7 @@ message-entry-same-length-3 : (t : ℕ) → message-entry-lts.Need-same-length-3
 ) (message-entry-at t) message-entry.Post
 message-entry-same-length-3 t c = search needs
 
--- src/lib.rt:119:1
+-- src/lib.rt:120:1
 message-entry-returns-7 : (t : ℕ) → message-entry-lts.Need-returns-7 (
   entry-alone-reads.Asked,
   entry-alone-reads.Learnt,
@@ -604,7 +604,7 @@ message-entry-returns-7 : (t : ℕ) → message-entry-lts.Need-returns-7 (
 ) (message-entry-at t) message-entry.Post
 message-entry-returns-7 t c = let a = (c .before .before .before .before .before .before .before .before .before .before .before .before .before .args) in kept (a .file .now) (a .header) (a .limits) (a .levels) (a .from) (a .table .now) (c .before .before .before .before .before .before .before .before .before .if1 .left) (c .before .before .before .before .before .before .before .before .entry-alone .ensures) (c .before .before .before .before .before .before .row .given .1) (c .before .before .before .keep-row .ensures .0) (not-false (c .before .before .before .keep-row .result) (c .if2 .left)) _ (c .before .before .before .keep-row .ensures .1)
 
--- src/lib.rt:119:1
+-- src/lib.rt:120:1
 message-entry-same-length-4 : (t : ℕ) → message-entry-lts.Need-same-length-4 (
   entry-alone-reads.Asked,
   entry-alone-reads.Learnt,
@@ -619,7 +619,7 @@ message-entry-same-length-4 : (t : ℕ) → message-entry-lts.Need-same-length-4
 ) (message-entry-at t) message-entry.Post
 message-entry-same-length-4 t c = search needs
 
--- src/lib.rt:119:1
+-- src/lib.rt:120:1
 message-entry-returns-8 : (t : ℕ) → message-entry-lts.Need-returns-8 (
   entry-alone-reads.Asked,
   entry-alone-reads.Learnt,
@@ -632,9 +632,9 @@ message-entry-returns-8 : (t : ℕ) → message-entry-lts.Need-returns-8 (
   block-end-reads.Asked,
   block-end-reads.Learnt,
 ) (message-entry-at t) message-entry.Post
-message-entry-returns-8 t c = let a = (c .before .before .before .before .before .before .before .before .before .before .before .before .before .before .before .before .before .before .before .before .before .before .before .before .args) in unclosed (a .file .now) (a .header) (a .limits) (a .levels) (a .from) (a .table .now) (c .before .before .before .before .before .before .before .before .before .before .before .before .before .before .before .before .before .before .before .before .if1 .left) (c .before .before .before .before .before .before .before .before .before .before .before .before .before .before .before .before .before .before .before .entry-alone .ensures) (c .before .before .before .before .before .before .before .before .before .before .before .before .before .before .before .before .before .block .given .1) (c .before .before .before .before .before .before .before .before .before .before .before .before .before .before .before .if3 .left) (c .before .before .before .before .before .before .before .before .before .before .before .before .before .before .signature .ensures) (c .before .before .before .before .before .before .before .before .before .before .before .before .p .given .1) (c .before .before .before .before .before .before .before .before .before .message-block .last .1 .0) (c .before .before .before .before .before .before .before .before .before .message-block .ensures) (c .before .before .before .before .before .p2 .given .1) (c .before .before .before .block-end .ensures) (c .before .r4 .given .1)
+message-entry-returns-8 t c = let a = (c .before .before .before .before .before .before .before .before .before .before .before .before .before .before .before .before .before .before .before .before .before .before .before .before .before .args) in unclosed (a .file .now) (a .header) (a .limits) (a .levels) (a .from) (a .table .now) (c .before .before .before .before .before .before .before .before .before .before .before .before .before .before .before .before .before .before .before .before .before .if1 .left) (c .before .before .before .before .before .before .before .before .before .before .before .before .before .before .before .before .before .before .before .before .entry-alone .ensures) (c .before .before .before .before .before .before .before .before .before .before .before .before .before .before .before .before .before .before .block .given .1) (c .before .before .before .before .before .before .before .before .before .before .before .before .before .before .before .before .if3 .left) (c .before .before .before .before .before .before .before .before .before .before .before .before .before .before .before .signature .ensures) (c .before .before .before .before .before .before .before .before .before .before .before .before .before .p .given .1) (c .before .before .before .before .before .before .before .before .before .message-block .last .1 .0) (c .before .before .before .before .before .before .before .before .before .message-block .ensures) (c .before .before .before .before .before .p2 .given .1) (c .before .before .before .block-end .ensures) (c .before .r4 .given .1)
 
--- src/lib.rt:119:1
+-- src/lib.rt:120:1
 message-entry-same-length-5 : (t : ℕ) → message-entry-lts.Need-same-length-5 (
   entry-alone-reads.Asked,
   entry-alone-reads.Learnt,
@@ -649,7 +649,7 @@ message-entry-same-length-5 : (t : ℕ) → message-entry-lts.Need-same-length-5
 ) (message-entry-at t) message-entry.Post
 message-entry-same-length-5 t c = search needs
 
--- src/lib.rt:119:1
+-- src/lib.rt:120:1
 message-entry-returns-9 : (t : ℕ) → message-entry-lts.Need-returns-9 (
   entry-alone-reads.Asked,
   entry-alone-reads.Learnt,
@@ -662,7 +662,7 @@ message-entry-returns-9 : (t : ℕ) → message-entry-lts.Need-returns-9 (
   block-end-reads.Asked,
   block-end-reads.Learnt,
 ) (message-entry-at t) message-entry.Post
-message-entry-returns-9 t c = let a = (c .before .before .before .before .before .before .before .before .before .before .before .before .before .before .before .before .before .before .before .before .before .before .before .args) in closed (a .file .now) (a .header) (a .limits) (a .levels) (a .from) (a .table .now) (c .before .before .before .before .before .before .before .before .before .before .before .before .before .before .before .before .before .before .before .if1 .left) (c .before .before .before .before .before .before .before .before .before .before .before .before .before .before .before .before .before .before .entry-alone .ensures) (c .before .before .before .before .before .before .before .before .before .before .before .before .before .before .before .before .block .given .1) (c .before .before .before .before .before .before .before .before .before .before .before .before .before .before .if3 .left) (c .before .before .before .before .before .before .before .before .before .before .before .before .before .signature .ensures) (c .before .before .before .before .before .before .before .before .before .before .before .p .given .1) (c .before .before .before .before .before .before .before .before .message-block .last .1 .0) (c .before .before .before .before .before .before .before .before .message-block .ensures) (c .before .before .before .before .p2 .given .1) (c .before .before .block-end .ensures) (c .enum-told .given .1)
+message-entry-returns-9 t c = let a = (c .before .before .before .before .before .before .before .before .before .before .before .before .before .before .before .before .before .before .before .before .before .before .before .before .args) in closed (a .file .now) (a .header) (a .limits) (a .levels) (a .from) (a .table .now) (c .before .before .before .before .before .before .before .before .before .before .before .before .before .before .before .before .before .before .before .before .if1 .left) (c .before .before .before .before .before .before .before .before .before .before .before .before .before .before .before .before .before .before .before .entry-alone .ensures) (c .before .before .before .before .before .before .before .before .before .before .before .before .before .before .before .before .before .block .given .1) (c .before .before .before .before .before .before .before .before .before .before .before .before .before .before .before .if3 .left) (c .before .before .before .before .before .before .before .before .before .before .before .before .before .before .signature .ensures) (c .before .before .before .before .before .before .before .before .before .before .before .before .p .given .1) (c .before .before .before .before .before .before .before .before .message-block .last .1 .0) (c .before .before .before .before .before .before .before .before .message-block .ensures) (c .before .before .before .before .p2 .given .1) (c .before .before .block-end .ensures) (c .enum-told .given .1)
 
 pub +message-block+message-entry-spec : {M : Type 1} → statement M
 +message-block+message-entry-spec =
@@ -710,7 +710,7 @@ pub +message-block+message-entry-spec : {M : Type 1} → statement M
     (message-entry-keep-row-requires t)
     (message-entry-same-length t)
     (message-entry-returns-2 t)
-    (message-entry-add-t36 t)
+    (message-entry-add-t40 t)
     (message-entry-enum-known-block t)
     (message-entry-returns-3 t)
     (message-entry-add-whole t)
