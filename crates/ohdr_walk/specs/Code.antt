@@ -1,16 +1,16 @@
 -- What the code's answers mean, and the definition of a walk at the entries of a header. Assumes nothing: these are definitions.
-use Prim.Native.Nat.{ℕ}
+use Prim.Native.Nat.{ℕ, _+_}
 use mathlib.Core.List.{List}
 use lib.Dec.{ltb}
-use Rattle.format.specs.Format.{pick}
+use Rattle.format.specs.Format.{read}
 use Rattle.records.specs.Refusals.{refusalNumber}
 use Rattle.row.specs.declared.Row.{Row}
 use Rattle.row.specs.Rows.{putRow}
-use Rattle.grammar.specs.Grammar.{Source}
-use Rattle.grammar.specs.Walk.{Went, reached, stopped}
+use Rattle.grammar.specs.Grammar.{Source, blockEnd}
+use Rattle.grammar.specs.Walk.{choose, Went, reached, stopped, andThen, begun}
 use Rattle.grammar.specs.Walk as walks
 use Rattle.grammar.specs.Filled.{Walked, entryOn, runOn, walkOn}
-use Rattle.ohdr_walk.specs.Sources.{source}
+use Rattle.ohdr_walk.specs.Sources.{sumMatches, source}
 use Rattle.ohdr_walk.specs.declared.Header.{Header}
 use Rattle.ohdr_walk.specs.declared.Limits.{Limits}
 use Rattle.ohdr_walk.specs.declared.Progress.{Progress}
@@ -23,10 +23,6 @@ sourceOf file h = source file (h .state) (h .flags)
 abbrev pub limitsOf : Limits → walks.Limits
 limitsOf l = record { entries = l .entries; beyond = refusalNumber (l .beyond); fits = λ i. ltb i (l .rows) }
 
--- the table with a row, where there is one
-abbrev pub stored : Limits → ℕ → List ℕ → Row → List ℕ
-stored l i t r = pick (ltb i (l .rows)) (putRow t i r) t
-
 abbrev pub walkedOf : Progress → List ℕ → Walked
 walkedOf p t = record { entries = p .entries; rows = p .rows; table = t }
 
@@ -34,6 +30,15 @@ walkedOf p t = record { entries = p .entries; rows = p .rows; table = t }
 abbrev pub walkOut : Walk → List ℕ → Went Walked
 walkOut (answers.Done p) t = reached (walkedOf p t) (p .at)
 walkOut (answers.Refused r n) t = stopped (refusalNumber r) n
+
+-- a message takes the next row; where there is none, 24
+abbrev pub rowTaken : Limits → Progress → Row → ℕ → List ℕ → Went Walked
+rowTaken l p r q t =
+    choose (ltb (p .rows) (l .rows)) (λ _. reached (record { entries = p .entries + 1; rows = p .rows + 1; table = putRow t (p .rows) r }) q) (λ _. stopped 24 (p .entries + 1))
+
+-- a block from o to w, closed after a walk that came to p; reading resumes at q
+abbrev pub blockClosed : List ℕ → ℕ → ℕ → Progress → ℕ → List ℕ → Went Walked
+blockClosed file o w p q t = andThen (begun (p .entries) (read file (blockEnd (sumMatches file) o w (p .at)) (p .at))) (λ _ _. reached (walkedOf p t) q)
 
 abbrev pub entryOf : List ℕ → Header → Limits → ℕ → ℕ → Walked → Went Walked
 entryOf file h l levels p s = entryOn (sourceOf file h) (limitsOf l) levels p s

@@ -30,7 +30,7 @@ use Rattle.ohdr_entry.specs.declared.EntryRead.{EntryRead}
 use Rattle.ohdr_entry.specs.declared.EntryRead.the-variants as entries
 use Rattle.row.specs.declared.Row.{Row}
 use Rattle.row.specs.Rows.{putRow}
-use Rattle.ohdr_walk.specs.Code.{stored, sourceOf, limitsOf, walkedOf, walkOut, entryOf, runOf}
+use Rattle.ohdr_walk.specs.Code.{rowTaken, blockClosed, sourceOf, limitsOf, walkedOf, walkOut, entryOf, runOf}
 use Rattle.helpers.specs.Facts.{met}
 use Rattle.ohdr_walk.specs.Sources.{sumMatches}
 use Rattle.ohdr_walk.specs.declared.Header.{Header}
@@ -72,15 +72,10 @@ module _ (file : List ℕ) (h : Header) (l : Limits) (levels : ℕ) (p : Progres
     pub unread : {x : Refusal} → r ≡ entries.Refused x → stopped (refusalNumber x) (p .entries + 1) ≡ at
     unread {x} e = sym (begins n ∙ refused-then _ _ (seen-refused own (refusalNumber x) (met entryOut f e)))
 
-    module _ {v : Row} {q : ℕ} (e : r ≡ entries.Message v q) {b : Bool} (i : b ≡ ltb (p .rows) (l .rows)) where
-      pub kept : b ≡ true → (t′ : List ℕ) → t′ ≡ stored l (p .rows) t v → reached (state (p .entries + 1) (p .rows + 1) t′) q ≡ at
-      kept d t′ c =
-          let w = seen-row own v q (met entryOut f e) in
-          let k : t′ ≡ putRow t (p .rows) (rowOf (w .value)) = c ∙ ap (λ (x : Bool). pick x (putRow t (p .rows) v) t) (sym i ∙ d) ∙ ap (putRow t (p .rows)) (sym (w .same)) in
-          ap (λ (x : Walked). reached x q) (state≡ refl refl k) ∙ sym (begins n ∙ found-then _ _ (w .found-it) ∙ choose-yes _ _ (sym i ∙ d))
-
-      pub full : b ≡ false → stopped 24 (p .entries + 1) ≡ at
-      full d = sym (begins n ∙ found-then _ _ (seen-row own v q (met entryOut f e) .found-it) ∙ choose-no _ _ (sym i ∙ d))
+    pub row-taken : {v : Row} {q : ℕ} → r ≡ entries.Message v q → (t′ : List ℕ) (w : Walk) → walkOut w t′ ≡ rowTaken l p v q t → walkOut w t′ ≡ at
+    row-taken {v} {q} e t′ w i =
+        let x = seen-row own v q (met entryOut f e) in
+        i ∙ ap (λ (y : Row). rowTaken l p y q t) (sym (x .same)) ∙ sym (begins n ∙ found-then _ _ (x .found-it))
 
     module _ {c : Continuation} {q : ℕ} (e : r ≡ entries.Continuation c q) where
       leads : own ≡ found (continuation (c .offset) (c .length)) q
@@ -105,9 +100,6 @@ module _ (file : List ℕ) (h : Header) (l : Limits) (levels : ℕ) (p : Progres
             pub unrun : {x : Refusal} {y : ℕ} → w ≡ Refused x y → stopped (refusalNumber x) y ≡ at
             unrun o = sym (begins n ∙ found-then _ _ leads ∙ choose-no _ _ (ne-eqb _ _ d) ∙ found-then _ _ (met placeOut (signed file (c .offset) s i) k) ∙ then-stopped _ (met (λ w. walkOut w t′) j o))
 
-            module _ {p′ : Progress} (o : w ≡ Done p′) {u : Place} (m : placeOut u ≡ read file (blockEnd (sumMatches file) (c .offset) (c .offset + c .length) (p′ .at)) (p′ .at)) where
-              pub unclosed : {x : Refusal} → u ≡ places.Refused x → stopped (refusalNumber x) (p′ .entries) ≡ at
-              unclosed y = sym (begins n ∙ found-then _ _ leads ∙ choose-no _ _ (ne-eqb _ _ d) ∙ found-then _ _ (met placeOut (signed file (c .offset) s i) k) ∙ then-reached _ (met (λ w. walkOut w t′) j o) ∙ refused-then _ _ (met placeOut m y))
-
-              pub closed : {z : ℕ} → u ≡ places.At z → reached (walkedOf p′ t′) q ≡ at
-              closed y = sym (begins n ∙ found-then _ _ leads ∙ choose-no _ _ (ne-eqb _ _ d) ∙ found-then _ _ (met placeOut (signed file (c .offset) s i) k) ∙ then-reached _ (met (λ w. walkOut w t′) j o) ∙ found-then _ _ (met placeOut m y))
+            pub block-closed : {p′ : Progress} → w ≡ Done p′ → (u : Walk) → ((y : List ℕ) → walkOut u y ≡ blockClosed file (c .offset) (c .offset + c .length) p′ q y) → walkOut u t′ ≡ at
+            block-closed o u m =
+                m t′ ∙ sym (begins n ∙ found-then _ _ leads ∙ choose-no _ _ (ne-eqb _ _ d) ∙ found-then _ _ (met placeOut (signed file (c .offset) s i) k) ∙ then-reached _ (met (λ w. walkOut w t′) j o))

@@ -11,9 +11,9 @@ use records::Refusal;
 use row::Row;
 use row::put_row;
 ghost use mathlib.Core.Path.{_≡_};
-ghost use Prim.Native.Nat.{_+_, _-_, _*_, _≤_, _<_};
+ghost use mathlib.Core.List.{List};
+ghost use Prim.Native.Nat.{ℕ, _+_, _-_, _*_, _≤_, _<_};
 ghost use lib.ListN.{length};
-ghost use lib.Dec.{ltb};
 ghost use Rattle.format.specs.Format.{read};
 ghost use Rattle.helpers.specs.Answers.{placeOut};
 ghost use Rattle.parser.specs.States.{Widths};
@@ -21,7 +21,7 @@ ghost use Rattle.grammar.specs.Grammar.{blockEnd, headerEnd};
 ghost use Rattle.ohdr_entry.specs.Entries.{prefixSize};
 ghost use Rattle.row.specs.Rows.{rowWords};
 ghost use Rattle.ohdr_walk.specs.Sources.{sumMatches};
-ghost use Rattle.ohdr_walk.specs.Code.{stored, walkedOf, walkOut, entryOf, runOf, walkOf};
+ghost use Rattle.ohdr_walk.specs.Code.{rowTaken, blockClosed, walkedOf, walkOut, entryOf, runOf, walkOf};
 
 // What does not change while a header is walked: the state of the file, and the header's flags.
 pub struct Header {
@@ -56,16 +56,22 @@ pub fn message_prefix_size(flags: u8) -> usize
     if flags & 4 != 0 { 6 } else { 4 }
 }
 
-// A message's words go into the next row, where there is one.
-fn keep_row(table: &mut [u64], limits: Limits, i: usize, row: Row) -> bool
-    requires { ⌜ limits .rows * rowWords ≤ length (now table) ⌝ }
-    ensures { λ r. ⌜ (r ≡ ltb i (limits .rows)) × (now (table .exit) ≡ stored limits i (now (table .entry)) row) ⌝ }
+// A message's words go into the next row, where there is one, and the walk goes on at `next`.
+fn take_row(table: &mut [u64], limits: Limits, from: Progress, row: Row, next: usize) -> Walk
+    requires { ⌜ (limits .rows * rowWords ≤ length (now table)) × (from .rows ≤ from .entries) × (from .entries < limits .entries) ⌝ }
+    ensures { λ r. ⌜ walkOut r (now (table .exit)) ≡ rowTaken limits from row next (now (table .entry)) ⌝ }
 {
-    if limits.rows <= i {
-        return false;
+    let rows = from.rows;
+    let begun = from.entries + 1;
+    if limits.rows <= rows {
+        return Walk::Refused(Refusal::Table, begun);
     }
-    put_row(table, i, row);
-    true
+    put_row(table, rows, row);
+    Walk::Done(Progress {
+        at: next,
+        rows: rows + 1,
+        entries: begun,
+    })
 }
 
 // The bytes up to an end, if it is not yet reached.
@@ -98,6 +104,21 @@ fn block_end(file: &[u8], from: usize, whole: usize, at: usize) -> Place
     Place::At(next)
 }
 
+// What closes a block whose entries were walked up to `last`; reading resumes after its entry.
+fn close_block(file: &[u8], from: usize, whole: usize, last: Progress, next: usize) -> Walk
+    requires { ⌜ from + 4 ≤ whole ⌝ }
+    ensures { λ r. ⌜ ((t : List ℕ) → walkOut r t ≡ blockClosed (now (file .entry)) from whole last next t) ⌝ }
+{
+    match block_end(file, from, whole, last.at) {
+        Place::Refused(r) => Walk::Refused(r, last.entries),
+        Place::At(_) => Walk::Done(Progress {
+            at: next,
+            rows: last.rows,
+            entries: last.entries,
+        }),
+    }
+}
+
 // What closes a header.
 fn header_end(file: &[u8], from: usize, end: usize, at: usize) -> Place
     requires { ⌜ from ≤ end ⌝ }
@@ -115,6 +136,29 @@ fn header_end(file: &[u8], from: usize, end: usize, at: usize) -> Place
     Place::At(next)
 }
 
+// The same header, and the same limits, made anew: a struct that is handed on to another call is
+// copied wherever it stands, here only where a block is opened.
+fn again(header: Header) -> Header
+    ensures { λ r. ⌜ r ≡ header ⌝ }
+{
+    let state = header.state;
+    Header {
+        state,
+        flags: header.flags,
+    }
+}
+
+fn again_limits(limits: Limits) -> Limits
+    ensures { λ r. ⌜ r ≡ limits ⌝ }
+{
+    let beyond = limits.beyond;
+    Limits {
+        entries: limits.entries,
+        beyond,
+        rows: limits.rows,
+    }
+}
+
 // An entry, and where it is a continuation the block that it opens. `levels` more levels of blocks
 // are allowed.
 fn message_entry(
@@ -128,26 +172,14 @@ fn message_entry(
     requires { ⌜ Widths (header .state) × (levels ≤ 25) × (from .rows ≤ from .entries) × (limits .rows * rowWords ≤ length (now table)) ⌝ }
     ensures { λ r. ⌜ walkOut r (now (table .exit)) ≡ entryOf (now (file .entry)) header limits levels (from .at) (walkedOf from (now (table .entry))) ⌝ }
 {
-    let at = from.at;
-    let rows = from.rows;
-    let entries = from.entries;
     let beyond = limits.beyond;
-    if limits.entries <= entries {
-        return Walk::Refused(beyond, entries);
+    if limits.entries <= from.entries {
+        return Walk::Refused(beyond, from.entries);
     }
-    let begun = entries + 1;
-    match entry_alone(file, at, header.flags, header.state) {
+    let begun = from.entries + 1;
+    match entry_alone(file, from.at, header.flags, header.state) {
         EntryRead::Refused(r) => Walk::Refused(r, begun),
-        EntryRead::Message(row, next) => {
-            if !keep_row(table, limits, rows, row) {
-                return Walk::Refused(Refusal::Table, begun);
-            }
-            Walk::Done(Progress {
-                at: next,
-                rows: rows + 1,
-                entries: begun,
-            })
-        }
+        EntryRead::Message(row, next) => take_row(table, limits, from, row, next),
         EntryRead::Continuation(block, next) => {
             if levels == 0 {
                 return Walk::Refused(Refusal::BlockLevel, begun);
@@ -162,35 +194,19 @@ fn message_entry(
             };
             let first = Progress {
                 at: start,
-                rows,
+                rows: from.rows,
                 entries: begun,
             };
-            // Made anew here alone: a struct that is handed on is copied for every entry.
-            let state = header.state;
-            let beyond = limits.beyond;
-            let inner = Header {
-                state,
-                flags: header.flags,
-            };
-            let left = Limits {
-                entries: limits.entries,
-                beyond,
-                rows: limits.rows,
-            };
-            let last = match message_block(file, table, inner, left, first, whole - 4, levels - 1) {
+            let inner = again(header);
+            let left = again_limits(limits);
+            let end = whole - 4;
+            let last = match message_block(file, table, inner, left, first, end, levels - 1) {
                 Walk::Done(p) => p,
                 Walk::Refused(r, n) => {
                     return Walk::Refused(r, n);
                 }
             };
-            match block_end(file, offset, whole, last.at) {
-                Place::Refused(r) => Walk::Refused(r, last.entries),
-                Place::At(_) => Walk::Done(Progress {
-                    at: next,
-                    rows: last.rows,
-                    entries: last.entries,
-                }),
-            }
+            close_block(file, offset, whole, last, next)
         }
     }
 }
