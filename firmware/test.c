@@ -361,7 +361,7 @@ static void test_full(void)
     look_up(file, w.count, table, words, MESSAGES, "", 0, 0, 0);
     look_up(file, w.count, table, words, 5, "Unit", 0, 0, 0);
     look_up(file, p.name + 3, table, words, MESSAGES, "Unit", 0, 0, 0);
-    look_up(file, w.count, table, words, words / 10 + 1, "Unit", DOWRINGAF_TABLE, 0, 0);
+    look_up(file, w.count, table, words, words / DOWRINGAF_ROW_WORDS + 1, "Unit", DOWRINGAF_TABLE, 0, 0);
     look_up(NULL, 0, NULL, 0, 0, "", 0, 0, 0);
     part = dowringaf_layout_data(file, w.count, o->data.position, o->data.length);
     IS(part.position, p.data);
@@ -493,7 +493,7 @@ static void test_fixed(void)
 {
     struct writer w;
     uint8_t *file;
-    uint64_t *table = ones(10);
+    uint64_t *table = ones(DOWRINGAF_ROW_WORDS);
     dowringaf_object *o = object_of_ones();
 
     w.count = 0;
@@ -509,7 +509,7 @@ static void test_fixed(void)
     put(&w, 27, 2);
     put(&w, 0, 4);
     file = copy(w.bytes, w.count);
-    dowringaf_data_object(file, w.count, 0, 2, 2, w.count, table, 10, o);
+    dowringaf_data_object(file, w.count, 0, 2, 2, w.count, table, DOWRINGAF_ROW_WORDS, o);
     IS(o->refused, 0);
     IS(o->next, w.count);
     IS(o->rows, 1);
