@@ -5,6 +5,6 @@ use lib.ListN.{length}
 use Rattle.listing_main.specs.declared.Input.{Input}
 use Rattle.listing_main.specs.declared.Input.the-variants.{Read, Failed}
 
-abbrev pub Within : Input → List ℕ → Type 0
-Within (Read n) xs = n ≤ length xs
-Within Failed xs = Unit {0}
+abbrev pub InBuffer : Input → List ℕ → Type 0
+InBuffer (Read n) xs = n ≤ length xs
+InBuffer Failed xs = Unit {0}

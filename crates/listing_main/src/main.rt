@@ -1,5 +1,5 @@
 // Reads standard input, at most one byte more than is taken, and writes its listing to standard output.
-ghost use Rattle.listing_main.specs.Input.{Within};
+ghost use Rattle.listing_main.specs.Input.{InBuffer};
 
 // How much of a buffer was read into, or that a read failed.
 enum Input {
@@ -9,7 +9,7 @@ enum Input {
 
 // Reads until buf is full or the input ends, by as many reads as that takes.
 fn read_input(fd: i32, buf: &mut [u8]) -> Input
-    ensures { λ r. ⌜ Within r (now (buf .exit)) ⌝ }
+    ensures { λ r. ⌜ InBuffer r (now (buf .exit)) ⌝ }
 {
     let mut n = 0;
     while n < buf.len() {

@@ -43,8 +43,8 @@ abbrev pub emptyPart : Part
 emptyPart = record { position = 0; length = 0 }
 
 -- the bytes from an address on; the empty part where the size is 0, whatever the address
-abbrev pub partOf : ℕ → ℕ → Part
-partOf address size = pick (eqb size 0) emptyPart (record { position = address; length = size })
+abbrev pub contiguousPart : ℕ → ℕ → Part
+contiguousPart address size = pick (eqb size 0) emptyPart (record { position = address; length = size })
 
 -- IV.A.2.i, compact storage: its raw data are passed over
 unfoldable pub compact : Format Part
@@ -56,7 +56,7 @@ contiguous s =
     number (s .«size_of_offsets») (λ address.
     number (s .«size_of_lengths») (λ size.
     check (ltb size 268435456) 13 (
-    pick (addressValid s address) (there address (bytes size nothing) (λ _. done (partOf address size))) (
+    pick (addressValid s address) (there address (bytes size nothing) (λ _. done (contiguousPart address size))) (
     done emptyPart))))
 
 -- IV.A.2.i, data layout, version 3: compact (0) and contiguous (1) storage; chunked (2) is refused by its own number

@@ -19,7 +19,7 @@ ghost use lib.ListN.{take as takeList};
 ghost use Rattle.format.specs.Format.{read, times, bytes, nothing};
 ghost use Rattle.helpers.specs.Answers.{placeOut, takenOut};
 ghost use Rattle.parser.specs.States.{Widths};
-ghost use Rattle.ohdr_storage.specs.Storage.{fillOld, fill12, fill3, fill, compact, contiguous, dataLayout, partOf, filter1, filter2, filterOf, reserved, filterPipeline};
+ghost use Rattle.ohdr_storage.specs.Storage.{fillOld, fill12, fill3, fill, compact, contiguous, dataLayout, contiguousPart, filter1, filter2, filterOf, reserved, filterPipeline};
 ghost use Rattle.ohdr_storage.specs.Answers.{partOut};
 
 // A layout's data as bytes of the file, and the position after its fields.
@@ -141,7 +141,7 @@ fn data_at(file: &[u8], address: usize, size: usize) -> Taken
 
 // The part that starts at an address; an empty one has no address.
 fn part_of(address: usize, size: usize) -> Part
-    ensures { λ r. ⌜ r ≡ partOf address size ⌝ }
+    ensures { λ r. ⌜ r ≡ contiguousPart address size ⌝ }
 {
     if size == 0 {
         Part {

@@ -1,12 +1,11 @@
 -- An entry as the code reads it, with the block that it opens. Each way out of its function is one way through the definition's equation
 -- (`entry-on`). Assumes nothing.
 use Prim.Native.Nat.{ℕ, _+_, _-_, _≤_, _<_}
-use mathlib.Core.Path.{_≡_, refl, sym, ap, _∙_}
+use mathlib.Core.Path.{_≡_, sym, ap, _∙_}
 use mathlib.Core.Bool.{Bool, true, false}
 use mathlib.Core.List.{List}
 use native.Mathlib.Omega.{arith}
 use lib.ListN.{length}
-use lib.Dec.{ltb}
 use borrow.Author.Tests.{lt-ltb, le-ltb, eq-eqb, ne-eqb}
 use Rattle.format.specs.Bits.{bit}
 use Rattle.format.specs.Format.{Out, found, read, pick, signature}
@@ -17,11 +16,11 @@ use Rattle.records.specs.declared.Refusal.{Refusal}
 use Rattle.helpers.specs.Answers.{placeOut}
 use Rattle.helpers.specs.declared.Place.{Place}
 use Rattle.helpers.specs.declared.Place.the-variants as places
-use Rattle.grammar.specs.Message.{Held, continuation, rowOf}
-use Rattle.grammar.specs.Grammar.{ochk, blockEnd}
-use Rattle.grammar.specs.Walk.{Went, reached, stopped, andThen, begun}
+use Rattle.grammar.specs.Message.{Held, continuation}
+use Rattle.grammar.specs.Grammar.{ochk}
+use Rattle.grammar.specs.Walk.{Went, stopped, andThen, begun}
 use Rattle.grammar.specs.WalkLaws.{choose-yes, choose-no, then-reached, then-stopped, found-then, refused-then}
-use Rattle.grammar.specs.Filled.{Walked, state≡, holdOn, entry-on}
+use Rattle.grammar.specs.Filled.{Walked, holdOn, entry-on}
 use Rattle.ohdr_entry.specs.declared.Continuation.{Continuation}
 use Rattle.ohdr_entry.specs.Answers.{entryOut, seen}
 use Rattle.ohdr_entry.specs.Entered.{Continued, continued, seen-row, seen-continuation, seen-refused}
@@ -29,10 +28,8 @@ use Rattle.ohdr_entry.specs.Entries.{prefixSize, entry}
 use Rattle.ohdr_entry.specs.declared.EntryRead.{EntryRead}
 use Rattle.ohdr_entry.specs.declared.EntryRead.the-variants as entries
 use Rattle.row.specs.declared.Row.{Row}
-use Rattle.row.specs.Rows.{putRow}
 use Rattle.ohdr_walk.specs.Code.{rowTaken, blockClosed, sourceOf, limitsOf, walkedOf, walkOut, entryOf, runOf}
 use Rattle.helpers.specs.Facts.{met}
-use Rattle.ohdr_walk.specs.Sources.{sumMatches}
 use Rattle.ohdr_walk.specs.declared.Header.{Header}
 use Rattle.ohdr_walk.specs.declared.Limits.{Limits}
 use Rattle.ohdr_walk.specs.declared.Progress.{Progress}

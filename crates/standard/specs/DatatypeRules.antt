@@ -61,16 +61,16 @@ ValidParentType h (members m) = Unit {0}
 ValidParentType h (parent-type t) = bits (h .class-bit-field) 0 4 ≡ 1 → NativeUchar t
 
 -- each member lies within the datatype element, which has this size
-abbrev pub Within : ℕ → Members → Type 0
-Within size no-members = Unit {0}
-Within size (version-1 m t rest) = (m .byte-offset-of-member + headerOf t .size ≤ size) × Within size rest
-Within size (version-3 m t rest) = (m .byte-offset-of-member + headerOf t .size ≤ size) × Within size rest
+abbrev pub InElement : ℕ → Members → Type 0
+InElement size no-members = Unit {0}
+InElement size (version-1 m t rest) = (m .byte-offset-of-member + headerOf t .size ≤ size) × InElement size rest
+InElement size (version-3 m t rest) = (m .byte-offset-of-member + headerOf t .size ≤ size) × InElement size rest
 
 abbrev pub ValidMembers : DatatypeHeader → Properties → Type 0
 ValidMembers h (fixed-point f) = Unit {0}
 ValidMembers h (floating-point f) = Unit {0}
 ValidMembers h no-properties = Unit {0}
-ValidMembers h (members m) = Within (h .size) m
+ValidMembers h (members m) = InElement (h .size) m
 ValidMembers h (parent-type t) = Unit {0}
 
 -- a member of version 1: padding of its name, reserved bytes and permutation are zero

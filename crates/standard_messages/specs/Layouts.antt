@@ -10,7 +10,7 @@ use Rattle.format.specs.Format.{refuse, pick}
 use Rattle.records.specs.declared.Part.{Part}
 use Rattle.parser.specs.declared.State.{State}
 use Rattle.parser.specs.States.{addressValid}
-use Rattle.ohdr_storage.specs.Storage.{fillOld, fillValue, emptyPart, partOf, compact, contiguous, dataLayout}
+use Rattle.ohdr_storage.specs.Storage.{fillOld, fillValue, emptyPart, contiguousPart, compact, contiguous, dataLayout}
 use Rattle.standard.specs.Tie.{Tied, tied-done, tied-number, tied-check, tied-only, tied-pick, tied-pick-left, tied-there-left, tied-refuse, tied-raw}
 use Rattle.standard.specs.Versions.{marked, tied-marked}
 use Rattle.standard.specs.Storage as standard
@@ -57,10 +57,10 @@ contiguous-tied s =
     never : {P : Type 0} → true ≡ false → P
     never e = let z : _≡_ {A = ℕ} 0 1 = cc in absurd (omega arith)
 
-    part-some : (address size : ℕ) → 0 < size → partOf address size ≡ record { position = address; length = size }
+    part-some : (address size : ℕ) → 0 < size → contiguousPart address size ≡ record { position = address; length = size }
     part-some address size z = rw (ne-eqb size 0 (λ e. omega arith))
 
-    part-none : (address size : ℕ) → size ≡ 0 → partOf address size ≡ emptyPart
+    part-none : (address size : ℕ) → size ≡ 0 → contiguousPart address size ≡ emptyPart
     part-none address size e = rw (eq-eqb size 0 e)
 
 properties-tied : (s : State) (layout-class : ℕ) → Tied (SameProperties s) (pick (eqb layout-class 0) compact (pick (eqb layout-class 1) (contiguous s) (pick (eqb layout-class 2) (refuse 14) (refuse 13)))) (layoutProperties (s .«size_of_offsets») (s .«size_of_lengths») layout-class)

@@ -24,8 +24,8 @@ unfoldable pub partEnd : List ℕ → ℕ → ℕ
 partEnd s at = at + 4 + le s at 4
 
 -- and its bytes
-unfoldable pub partOf : List ℕ → ℕ → List ℕ
-partOf s at = take (le s at 4) (drop (at + 4) s)
+unfoldable pub partBytes : List ℕ → ℕ → List ℕ
+partBytes s at = take (le s at 4) (drop (at + 4) s)
 
 abbrev pub Ends : List ℕ → ℕ → PartEnd → Type 0
 Ends s at (ends.At e) = (e ≡ partEnd s at) × (e ≤ length s)
@@ -61,7 +61,7 @@ counted t false = record { run = t .run + 1; failed = t .failed + 1; whole = t .
 module _ (P : List ℕ → List ℕ → Bool → Type 0) (s : List ℕ) where
   -- the case at a position, with its own input and what is expected of it
   abbrev pub Judged : ℕ → Bool → Type 0
-  Judged at b = P (partOf s (inputAt s at)) (partOf s (expectedAt s at)) b
+  Judged at b = P (partBytes s (inputAt s at)) (partBytes s (expectedAt s at)) b
 
   abbrev pub StepIs : ℕ → Step → Type 0
   StepIs at (steps.Ran b c) = CaseIs s at c × Judged at b

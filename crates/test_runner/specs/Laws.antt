@@ -8,7 +8,7 @@ use Rattle.format.specs.Bytes.{le}
 use Rattle.format.specs.Format.{done, number, found, refused, read}
 use Rattle.format.specs.Laws.{sound, none}
 use Rattle.test_runner.specs.declared.Case.{Case}
-use Rattle.test_runner.specs.Cases.{partEnd, partOf, inputAt, expectedAt, caseEnd, CaseIs}
+use Rattle.test_runner.specs.Cases.{partEnd, partBytes, inputAt, expectedAt, caseEnd, CaseIs}
 
 module _ (s : List ℕ) (at : ℕ) where
   pub part-later : at + 4 ≤ partEnd s at
@@ -16,8 +16,8 @@ module _ (s : List ℕ) (at : ℕ) where
   part-later = omega arith
 
   -- the bytes from the length's end to the part's end
-  pub part-is : (e : ℕ) → e ≡ partEnd s at → take (e - (at + 4)) (drop (at + 4) s) ≡ partOf s at
-  unfolding partEnd partOf
+  pub part-is : (e : ℕ) → e ≡ partEnd s at → take (e - (at + 4)) (drop (at + 4) s) ≡ partBytes s at
+  unfolding partEnd partBytes
   part-is e h = let n : e - (at + 4) ≡ le s at 4 = omega arith in ap (λ (k : ℕ). take k (drop (at + 4) s)) n
 
   -- a length that is read, or not
@@ -60,8 +60,8 @@ module _ {s : List ℕ} {at : ℕ} {c : Case} (h : CaseIs s at c) where
     h .inside,
   )
 
-  pub input-is : take (c .«input_end» - (c .«name_end» + 4)) (drop (c .«name_end» + 4) s) ≡ partOf s (inputAt s at)
-  input-is = part-is s (c .«name_end») (c .«input_end») (h .input-end ∙ ap (partEnd s) (sym (h .name-end))) ∙ ap (partOf s) (h .name-end)
+  pub input-is : take (c .«input_end» - (c .«name_end» + 4)) (drop (c .«name_end» + 4) s) ≡ partBytes s (inputAt s at)
+  input-is = part-is s (c .«name_end») (c .«input_end») (h .input-end ∙ ap (partEnd s) (sym (h .name-end))) ∙ ap (partBytes s) (h .name-end)
 
-  pub expected-is : take (c .end - (c .«input_end» + 4)) (drop (c .«input_end» + 4) s) ≡ partOf s (expectedAt s at)
-  expected-is = part-is s (c .«input_end») (c .end) (h .end ∙ ap (partEnd s) (sym (h .input-end))) ∙ ap (partOf s) (h .input-end)
+  pub expected-is : take (c .end - (c .«input_end» + 4)) (drop (c .«input_end» + 4) s) ≡ partBytes s (expectedAt s at)
+  expected-is = part-is s (c .«input_end») (c .end) (h .end ∙ ap (partEnd s) (sym (h .input-end))) ∙ ap (partBytes s) (h .input-end)

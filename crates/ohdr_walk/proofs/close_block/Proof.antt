@@ -5,9 +5,6 @@ use mathlib.Core.Path.{sym}
 use borrow.Author.Needs.{needs}
 use Rattle.ohdr_walk.proofs.close_block.Statement.{statement}
 use Rattle.ohdr_walk.proofs.close_block.Tie as tie
-use Rattle.ohdr_walk.proofs.close_block.Reads as reads
-use Rattle.ohdr_walk.proofs.close_block.Lts as lts
-use Rattle.ohdr_walk.proofs.block_end.Reads as block-end-reads
 
 -- src/lib.rt:112:11
 block-end-requires : tie.Need-block-end-requires

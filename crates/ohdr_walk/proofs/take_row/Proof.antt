@@ -7,9 +7,6 @@ use mathlib.Core.Path.{sym, ap, _∙_}
 use borrow.Author.Needs.{needs}
 use Rattle.ohdr_walk.proofs.take_row.Statement.{statement}
 use Rattle.ohdr_walk.proofs.take_row.Tie as tie
-use Rattle.ohdr_walk.proofs.take_row.Reads as reads
-use Rattle.ohdr_walk.proofs.take_row.Lts as lts
-use Rattle.row.proofs.put_row.Reads as put-row-reads
 
 -- src/lib.rt:65:17
 add-begun : tie.Need-add-begun
