@@ -1,3 +1,4 @@
+-- Each record is read from the last row of its type, which the one pass over the rows has found.
 use mathlib.Core.Path.{refl}
 use native.Mathlib.Omega.{arith}
 use Rattle.data_object_winners.specs.LastRows.{last-within, last-at}

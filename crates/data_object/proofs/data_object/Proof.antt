@@ -1,3 +1,4 @@
+-- A refusal clears the whole table; otherwise the rows are the walk's, and what is behind them is cleared.
 use borrow.Author.Needs.{needs}
 use Rattle.data_object.specs.DecodedLaws.{rows-fit, walk-refused, rejected-decoded, built-decoded}
 use Rattle.data_object_header.specs.HeaderLaws.{no-width, too-large}

@@ -1,3 +1,4 @@
+-- The definition reads the header's fields and then walks its messages, and so do the two calls.
 use mathlib.Core.Path.{_∙_}
 use native.Mathlib.Omega.{arith}
 use Rattle.data_object.specs.DecodedLaws.{fields-refused, fields-read, fields-bound}

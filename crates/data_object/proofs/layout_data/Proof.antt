@@ -1,3 +1,4 @@
+-- Both tests together say that the part lies in the file; then its bytes are the first of what follows.
 use lib.ListN.{length, take, drop, length-drop}
 use lib.Seq.{take-all}
 use borrow.Author.Tests.{le-leb, lt-leb}

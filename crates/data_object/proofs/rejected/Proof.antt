@@ -1,3 +1,4 @@
+-- Each record is its type's default, and the part is the empty one.
 use Rattle.data_object.specs.DecodedLaws.{wins≡}
 use mathlib.Core.Path.{refl}
 use borrow.Author.Needs.{needs}

@@ -1,3 +1,4 @@
+-- The mask leaves flag bits 0 and 1, at most 3, so 1 shifted by them is a power of two up to 8.
 use Rattle.data_object_header.specs.Facts.{mask-below, width-small, shifted}
 use native.Mathlib.Omega.{arith}
 use Rattle.data_object_header.proofs.chunk_size_width.Statement.{statement}

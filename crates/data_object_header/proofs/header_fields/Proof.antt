@@ -1,3 +1,4 @@
+-- Signature, version, flags, times and chunk size are each one step of the format.
 use Rattle.format.specs.Steps.{read-number, read-skip, read-bind, read-done, read-refuse}
 use borrow.Author.Tests.{eq-eqb, ne-eqb, le-leb, lt-leb}
 use Rattle.format.specs.Bits.{bit-set, bit-clear}

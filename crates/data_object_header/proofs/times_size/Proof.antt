@@ -1,3 +1,4 @@
+-- The mask 32 tests flag bit 5, set or clear.
 use Rattle.format.specs.Bits.{bit-set, bit-clear}
 use Rattle.data_object_header.proofs.times_size.Statement.{statement}
 use Rattle.data_object_header.proofs.times_size.Tie as tie

@@ -1,3 +1,4 @@
+-- Row 0 stands for none; any other is read from the table, and its body is taken.
 use Rattle.data_object_winners.specs.declared.LastBody.the-variants as bodies
 use Rattle.data_object_winners.specs.Facts.{body-some}
 use Rattle.row.specs.declared.Row.{Row}

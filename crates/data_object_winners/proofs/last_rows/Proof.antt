@@ -1,3 +1,4 @@
+-- After each turn the array is right for the rows passed so far, and at the end those are all of them.
 use Rattle.data_object_winners.specs.Facts.{last-none, last-more}
 use Rattle.data_object_winners.specs.Winners.{lastRows}
 use borrow.Author.Tests.{lt-ltb, le-ltb}

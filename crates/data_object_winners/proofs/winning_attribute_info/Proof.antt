@@ -1,3 +1,4 @@
+-- No row and a refused reading both give the default; else the attribute info is what was read.
 use borrow.Author.Needs.{needs}
 use Rattle.data_object_winners.proofs.winning_attribute_info.Statement.{statement}
 use Rattle.data_object_winners.proofs.winning_attribute_info.Tie as tie

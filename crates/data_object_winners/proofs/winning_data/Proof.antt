@@ -1,3 +1,4 @@
+-- No row and a refused layout both give the empty part; else the part is what was read.
 use borrow.Author.Needs.{needs}
 use Rattle.data_object_winners.proofs.winning_data.Statement.{statement}
 use Rattle.data_object_winners.proofs.winning_data.Tie as tie

@@ -1,3 +1,4 @@
+-- No row gives the default; a refused dataspace comes with the default record already.
 use Rattle.data_object_winners.specs.Facts.{space-or-default}
 use borrow.Author.Needs.{needs}
 use Rattle.data_object_winners.proofs.winning_data_space.Statement.{statement}

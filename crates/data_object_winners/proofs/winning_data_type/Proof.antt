@@ -1,3 +1,4 @@
+-- No row and a refused reading both give the default; else the datatype is what was read.
 use borrow.Author.Needs.{needs}
 use Rattle.data_object_winners.proofs.winning_data_type.Statement.{statement}
 use Rattle.data_object_winners.proofs.winning_data_type.Tie as tie

@@ -1,3 +1,4 @@
+-- In either case the three words are set in their places, a refusal by its number.
 use lib.ListN.{length-set}
 use native.Mathlib.Omega.{arith}
 use borrow.Author.Needs.{needs}

@@ -1,3 +1,4 @@
+-- The words of the dataspace are set one after another, its kind and its sizes by the calls.
 use borrow.Author.Needs.{needs}
 use Rattle.data_object_words.proofs.put_data_space.Statement.{statement}
 use Rattle.data_object_words.proofs.put_data_space.Tie as tie

@@ -1,3 +1,4 @@
+-- The words of the datatype are set one after another, its list size and its format by the calls.
 use borrow.Author.Needs.{needs}
 use Rattle.data_object_words.proofs.put_data_type.Statement.{statement}
 use Rattle.data_object_words.proofs.put_data_type.Tie as tie

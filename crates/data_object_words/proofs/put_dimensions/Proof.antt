@@ -1,3 +1,4 @@
+-- The count and the four sizes are each set in their place.
 use native.Mathlib.Numerals.{towards-suc}
 use borrow.Author.Needs.{needs}
 use Rattle.data_object_words.proofs.put_dimensions.Statement.{statement}

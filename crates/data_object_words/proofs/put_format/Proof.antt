@@ -1,3 +1,4 @@
+-- Case by case, the call sets the words of that format, with zeros for what it lacks.
 use borrow.Author.Needs.{needs}
 use Rattle.data_object_words.proofs.put_format.Statement.{statement}
 use Rattle.data_object_words.proofs.put_format.Tie as tie

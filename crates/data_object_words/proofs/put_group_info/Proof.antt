@@ -1,3 +1,4 @@
+-- The words of the group info are set one after another, the optional ones by the calls.
 use borrow.Author.Needs.{needs}
 use Rattle.data_object_words.proofs.put_group_info.Statement.{statement}
 use Rattle.data_object_words.proofs.put_group_info.Tie as tie

@@ -1,3 +1,4 @@
+-- Absent or present, the two words are set in their places.
 use native.Mathlib.Numerals.{towards-suc}
 use borrow.Author.Needs.{needs}
 use Rattle.data_object_words.proofs.put_optional.Statement.{statement}

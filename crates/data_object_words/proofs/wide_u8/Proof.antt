@@ -1,3 +1,4 @@
+-- Case by case: a wider number has the same value.
 use borrow.Author.Needs.{needs}
 use Rattle.data_object_words.proofs.wide_u8.Statement.{statement}
 use Rattle.data_object_words.proofs.wide_u8.Tie as tie

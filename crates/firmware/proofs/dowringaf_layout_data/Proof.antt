@@ -1,3 +1,4 @@
+-- Both tests together say that the part lies in the file; if one fails, the part leaves it.
 use Rattle.firmware.specs.Laws.{part-lies, part-leaves}
 use native.Mathlib.Omega.{arith}
 use borrow.Author.Needs.{needs}

@@ -1,3 +1,4 @@
+-- Case by case, a refusal by its number.
 use borrow.Author.Needs.{needs}
 use Rattle.firmware.proofs.lookup_words.Statement.{statement}
 use Rattle.firmware.proofs.lookup_words.Tie as tie

@@ -1,3 +1,4 @@
+-- The number in one byte is the byte.
 use Rattle.format.specs.BytesLaws.{le-one}
 use native.Mathlib.Omega.{arith}
 use borrow.Author.Needs.{needs}

@@ -1,3 +1,4 @@
+-- A number is its lower bytes plus its higher ones, shifted: here two bytes and two.
 use Rattle.format.specs.BytesLaws.{le-split}
 use native.Mathlib.Omega.{arith}
 use borrow.Author.Needs.{needs}

@@ -1,3 +1,4 @@
+-- Size by size: either one call reads the number, or it is four bytes plus the rest, shifted.
 use Rattle.helpers.specs.Facts.{past}
 use Rattle.format.specs.BytesLaws.{le-none, le-split}
 use native.Mathlib.Omega.{arith}

@@ -1,3 +1,4 @@
+-- The two tests together compare the end with the file's length, and no sum can wrap.
 use borrow.Author.Tests.{le-leb, lt-leb}
 use native.Mathlib.Omega.{arith}
 use lib.ListN.{length}

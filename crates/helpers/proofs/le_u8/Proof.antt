@@ -1,3 +1,4 @@
+-- A number is read where its one byte is in the file, and that is what is tested.
 use Rattle.helpers.specs.Facts.{room}
 use lib.ListN.{length}
 use Prim.Native.Nat.{_+_}

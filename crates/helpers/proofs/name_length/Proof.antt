@@ -1,3 +1,4 @@
+-- The name's length is the bytes passed so far plus the length from here on, turn by turn.
 use Rattle.format.specs.BytesLaws.{name-none, name-zero, name-past, name-step}
 use Rattle.format.specs.Bytes.{nameLength}
 use lib.ListN.{length}

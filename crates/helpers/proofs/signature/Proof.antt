@@ -1,3 +1,4 @@
+-- The four bytes are one number of the format, and the test is the format's own.
 use Rattle.format.specs.Steps.{read-number, read-refuse, read-done}
 use borrow.Author.Tests.{eq-eqb, ne-eqb}
 use borrow.Author.Needs.{needs}

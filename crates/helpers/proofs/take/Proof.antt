@@ -1,3 +1,4 @@
+-- Bytes are passed over where all of them are in the file, and that is what is tested.
 use Rattle.helpers.specs.Facts.{room}
 use lib.ListN.{length}
 use Prim.Native.Nat.{_+_}

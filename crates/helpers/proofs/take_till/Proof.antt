@@ -1,3 +1,4 @@
+-- A name ends at a zero in the file or at its limit, and the tests tell these two from a short one.
 use Rattle.format.specs.BytesLaws.{name-outside}
 use Rattle.format.specs.Steps.{name-room}
 use borrow.Author.Tests.{lt-ltb, le-ltb, le-leb, eq-eqb, ne-eqb}

@@ -1,3 +1,4 @@
+-- A zero at the end does not count, so the text's length stays the same, turn by turn.
 use Rattle.format.specs.BytesLaws.{text-none, text-step, text-full}
 use Rattle.format.specs.Bytes.{textLength}
 use native.Mathlib.Omega.{arith}

@@ -1,3 +1,4 @@
+-- A text is read where all its bytes are in the file, and its length is what the call counts.
 use Rattle.helpers.specs.Facts.{room}
 use lib.ListN.{length}
 use Prim.Native.Nat.{_+_}

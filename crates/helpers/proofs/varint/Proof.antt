@@ -1,3 +1,4 @@
+-- A number is read where as many bytes as its size are in the file, and that is what is tested.
 use Rattle.helpers.specs.Facts.{room}
 use Rattle.format.specs.Steps.{number-room}
 use lib.ListN.{length}

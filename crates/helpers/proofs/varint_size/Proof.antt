@@ -1,3 +1,4 @@
+-- A size above 8 is refused by the format too; any other is read by the call.
 use Rattle.format.specs.Steps.{read-refuse}
 use borrow.Author.Tests.{le-leb, lt-leb}
 use borrow.Author.Needs.{needs}

@@ -1,3 +1,4 @@
+-- What the call wrote is the listing in each case, and writing leaves what stands behind it.
 use Rattle.listing.specs.Laws.{wrote-counts, part-rest, lead-inside, lent-listed, lent-rows}
 use Rattle.listing.specs.Listing.{listingOf, fileOf, leadOut}
 use borrow.Author.Tests.{lt-ltb, le-ltb}

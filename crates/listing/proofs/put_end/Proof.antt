@@ -1,3 +1,4 @@
+-- The word and the two figures are written one after another.
 use Rattle.text.specs.Laws.{then}
 use Rattle.listing.specs.Listing.{endOf}
 use borrow.Author.Needs.{needs}

@@ -1,3 +1,4 @@
+-- The five figures are written one after another, each in at most 21 bytes.
 use Rattle.text.specs.Laws.{then}
 use Rattle.listing.specs.Listing.{headOf}
 use borrow.Author.Needs.{needs}

@@ -1,3 +1,4 @@
+-- The head, the name and the part are written one after another.
 use Rattle.listing.specs.Listing.{lineOf}
 use Rattle.text.specs.Laws.{then}
 use borrow.Author.Needs.{needs}

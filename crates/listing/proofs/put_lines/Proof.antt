@@ -1,3 +1,4 @@
+-- After each turn the lines of the rows so far are written, each in at most 189 bytes.
 use Prim.Native.Nat.{_≤_, _-_, _*_}
 use mathlib.Core.Path.{_≡_, refl}
 use native.Mathlib.Omega.{arith}

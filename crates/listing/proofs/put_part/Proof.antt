@@ -1,3 +1,4 @@
+-- Two hyphens or two figures are written one after another.
 use Rattle.listing.specs.Listing.{placeOf}
 use Rattle.text.specs.Laws.{then}
 use borrow.Author.Needs.{needs}

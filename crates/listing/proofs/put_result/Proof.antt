@@ -1,3 +1,4 @@
+-- The first word tells a refusal from a reading; then the lines and the end follow one another.
 use borrow.Author.Tests.{eq-eqb, ne-eqb}
 use Rattle.text.specs.Laws.{then}
 use Rattle.listing.specs.Listing.{wordsText}

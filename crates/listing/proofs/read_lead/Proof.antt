@@ -1,3 +1,4 @@
+-- Each of the four numbers is one step of the format, so the answer is its reading.
 use Rattle.format.specs.Steps.{read-number, read-done}
 use Rattle.listing.specs.Listing.{lead}
 use borrow.Author.Needs.{needs}

@@ -1,3 +1,4 @@
+-- What was read is no longer than the buffer, so it can be lent, and so can what the listing counts.
 use lib.Seq.{length-take-le}
 use mathlib.Core.Path.{sym}
 use borrow.Author.Needs.{needs}

@@ -1,3 +1,4 @@
+-- A read counts no more bytes than there is room for, so what was read stays in the buffer.
 use mathlib.Core.Path.{_≡_}
 use lib.ListN.{length}
 use borrow.Author.Needs.{needs}

@@ -1,3 +1,4 @@
+-- No row passed so far has the name, and of the row at hand the bytes compared so far agree.
 use Rattle.lookup.specs.Facts.{Agree, room, nameless, differs, bears}
 use Rattle.lookup.specs.Lookup.{NoneBelow}
 use lib.ListN.{length}

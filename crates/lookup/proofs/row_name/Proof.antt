@@ -1,3 +1,4 @@
+-- Each test is a part of what a row with such a name is, so only a row that passes them all is one.
 use native.Mathlib.Omega.{arith}
 use Rattle.lookup.specs.Facts.{attribute-name, no-name, other-name}
 use borrow.Author.Needs.{needs}

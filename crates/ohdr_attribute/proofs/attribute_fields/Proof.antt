@@ -1,3 +1,4 @@
+-- Each field is one step of the format, and each test is the format's own.
 use Rattle.ohdr_attribute.specs.Attributes.{attributeFields}
 use Rattle.format.specs.Steps.{read-number, read-bind, read-refuse, read-done}
 use borrow.Author.Tests.{not-true, not-false, eq-eqb, ne-eqb, le-leb, lt-leb}

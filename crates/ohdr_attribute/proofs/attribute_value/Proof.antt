@@ -1,3 +1,4 @@
+-- The class and the size choose the value, and each is read by its own call.
 use Prim.Native.Nat.{_*_}
 use mathlib.Core.Logic.{⊎-elim}
 use borrow.Author.Tests.{lt-ltb, le-ltb}

@@ -1,3 +1,4 @@
+-- Only version 1 has padding, and the number is then the definition's.
 use borrow.Author.Tests.{eq-eqb, ne-eqb}
 use borrow.Author.Needs.{needs}
 use Rattle.ohdr_attribute.proofs.eight_padding.Statement.{statement}

@@ -1,3 +1,4 @@
+-- Only version 3 has the byte, which is one step of the format.
 use Rattle.ohdr_attribute.specs.Attributes.{encoding}
 use Rattle.format.specs.Steps.{read-number, read-done}
 use borrow.Author.Tests.{eq-eqb, ne-eqb}

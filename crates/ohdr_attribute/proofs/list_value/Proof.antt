@@ -1,3 +1,4 @@
+-- The size is tested as the format tests it, and then that many bytes are passed over.
 use Rattle.ohdr_attribute.specs.Attributes.{listValue}
 use Rattle.format.specs.Steps.{read-skip, read-refuse, read-done}
 use borrow.Author.Tests.{le-leb, lt-leb}

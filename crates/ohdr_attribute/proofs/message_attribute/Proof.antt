@@ -1,3 +1,4 @@
+-- The fields, the name and its padding are steps of the format, and the call reads the rest.
 use Rattle.ohdr_attribute.specs.Attributes.{attribute}
 use Rattle.format.specs.Steps.{read-here, read-bind, read-text, read-skip}
 use borrow.Author.Needs.{needs}

@@ -1,3 +1,4 @@
+-- The format tries type, space and value, and where one fails it goes back to where the type began.
 use Rattle.format.specs.Steps.{read-attempt, read-here, read-bind, read-skip, read-done}
 use Rattle.ohdr_datatype.specs.DataTypes.{dataType}
 use Rattle.format.specs.Standing.{read-forward}

@@ -1,3 +1,4 @@
+-- From 8 bytes on 8 - n is zero, so the definition gives such a name no padding either.
 use Prim.Native.Nat.{_-_, _%_}
 use mathlib.Core.Path.{_≡_}
 use native.Mathlib.Omega.{arith}

@@ -1,3 +1,4 @@
+-- Too many elements are above the limit too; else the count is exact, and its tests are the format's.
 use mathlib.Core.Path.{sym, _∙_}
 use native.Mathlib.Omega.{arith}
 use Rattle.format.specs.Steps.{read-skip, read-done}

@@ -1,3 +1,4 @@
+-- The space and its padding are steps of the format, and the call reads the value.
 use Rattle.ohdr_dataspace.specs.DataSpaces.{dataSpace}
 use Rattle.format.specs.Standing.{read-forward}
 use Rattle.ohdr_attribute.specs.Attributes.{spaceValue}

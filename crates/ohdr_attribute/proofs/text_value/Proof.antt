@@ -1,3 +1,4 @@
+-- Too many elements are more bytes than any file has; else the count is exact and the text is read.
 use mathlib.Core.Path.{sym, _∙_}
 use Rattle.format.specs.Steps.{read-here, read-text, read-done}
 use Rattle.ohdr_dataspace.specs.Facts.{fits-count, many-count}

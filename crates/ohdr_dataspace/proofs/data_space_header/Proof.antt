@@ -1,3 +1,4 @@
+-- Each field is one step of the format, and each test is the format's own.
 use borrow.Author.Tests.{le-leb, lt-leb, not-true, not-false}
 use borrow.Author.Needs.{needs}
 use Rattle.format.specs.Steps.{read-done, read-refuse, read-number, read-bind}

@@ -1,3 +1,4 @@
+-- The sizes and the maximum sizes are each one step of the format; a refusal comes with the default.
 use Rattle.ohdr_dataspace.specs.DataSpaces.{dataSpaceSizes}
 use Rattle.format.specs.Steps.{read-bind, read-done}
 use Rattle.format.specs.Bits.{bit-test}

@@ -1,3 +1,4 @@
+-- The size is one step of the format, and the tests of it are the format's own.
 use borrow.Author.Tests.{eq-eqb, ne-eqb, le-leb, lt-leb, not-true, not-false}
 use borrow.Author.Needs.{needs}
 use Rattle.format.specs.Steps.{read-done, read-refuse, read-number}

@@ -1,3 +1,4 @@
+-- The reading of the sizes from the start is the reading of those left from here, turn by turn.
 use Rattle.ohdr_dataspace.specs.Facts.{dimensionsFrom-none, dimensionsFrom-more}
 use Rattle.ohdr_dataspace.specs.DataSpaces.{dimensions, dimensionsFrom}
 use Rattle.format.specs.Steps.{read-bind, read-done}

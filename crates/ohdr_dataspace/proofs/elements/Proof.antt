@@ -1,3 +1,4 @@
+-- After each turn the count is the product of the sizes so far.
 use Rattle.ohdr_dataspace.specs.Facts.{product-more}
 use Rattle.ohdr_dataspace.specs.Answers.{countOf}
 use Rattle.ohdr_dataspace.specs.DataSpaces.{product}

@@ -1,3 +1,4 @@
+-- Version 1 passes over five bytes and version 2 reads one, as the format does.
 use borrow.Author.Tests.{eq-eqb, ne-eqb}
 use borrow.Author.Needs.{needs}
 use Rattle.format.specs.Steps.{read-done, read-number, read-skip}

@@ -1,3 +1,4 @@
+-- The two tests are those of the definition.
 use borrow.Author.Tests.{eq-eqb, ne-eqb}
 use Rattle.ohdr_dataspace.proofs.known_version.Statement.{statement}
 use Rattle.ohdr_dataspace.proofs.known_version.Tie as tie

@@ -1,3 +1,4 @@
+-- Where they are present, what the call reads is the answer; else there are none.
 use Rattle.ohdr_dataspace.specs.DataSpaces.{maximumSizes}
 use Rattle.format.specs.Steps.{read-done}
 use borrow.Author.Needs.{needs}

@@ -1,3 +1,4 @@
+-- The header is one step of the format, and the call reads the rest; a refusal has the default.
 use Rattle.ohdr_dataspace.specs.Answers.{headerOut}
 use mathlib.Core.Path.{ap}
 use Rattle.ohdr_dataspace.specs.DataSpaces.{dataSpace}

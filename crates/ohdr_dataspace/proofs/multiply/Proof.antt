@@ -1,3 +1,4 @@
+-- The largest number divided by one factor tells whether the product is below 2^64.
 use Rattle.ohdr_dataspace.specs.Facts.{too-large, not-too-large, count-fits, count-many}
 use mathlib.Core.Path.{sym}
 use native.Mathlib.Nat.{zero-mul}

@@ -1,3 +1,4 @@
+-- Only version 1 has the indices, and the mask 2 tests flag bit 1.
 use Rattle.format.specs.Bits.{bit-test}
 use borrow.Author.Tests.{eq-eqb, ne-eqb}
 use Rattle.ohdr_dataspace.proofs.permuted.Statement.{statement}

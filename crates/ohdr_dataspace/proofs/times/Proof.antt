@@ -1,3 +1,4 @@
+-- A count is exact and is multiplied; too many stay too many, unless they are taken no times.
 use Rattle.ohdr_dataspace.specs.Facts.{count-many, fits-count, many-count, many-times}
 use mathlib.Core.Path.{sym, _∙_}
 use native.Mathlib.Nat.{mul-zero}

@@ -1,3 +1,4 @@
+-- A type inside a type has one level less, so the calls end; members are read in a loop, turn by turn.
 use Rattle.ohdr_datatype.specs.Facts.{class-is, class-not, low-two-bytes, type-none, type-more}
 use Rattle.ohdr_datatype.specs.DataTypes.{member as memberFormat, dataType, typeLayer, plain, properties, listProperties}
 use Rattle.format.specs.Steps.{read-done, read-refuse, read-bind, times-none, times-more}

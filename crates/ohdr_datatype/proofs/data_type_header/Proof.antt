@@ -1,3 +1,4 @@
+-- Each field is one step of the format, and each test is the format's own.
 use Rattle.format.specs.Steps.{read-done, read-refuse, read-number}
 use Rattle.ohdr_datatype.specs.DataTypes.{dataTypeHeader}
 use borrow.Author.Tests.{not-true, not-false, lt-ltb, le-ltb}

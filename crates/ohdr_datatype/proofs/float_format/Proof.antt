@@ -1,3 +1,4 @@
+-- The properties are one step of the format, and the test for IEEE is the format's own.
 use Rattle.format.specs.Steps.{read-done, read-refuse, read-bind}
 use Rattle.ohdr_datatype.specs.DataTypes.{floatFormat}
 use borrow.Author.Tests.{not-true, not-false}

@@ -1,3 +1,4 @@
+-- The definition joins the same seven tests, so the first that fails decides.
 use Rattle.ohdr_datatype.specs.DataTypes.{floatIs}
 use borrow.Author.Tests.{eq-eqb, ne-eqb}
 use Rattle.ohdr_datatype.proofs.float_is.Statement.{statement}

@@ -1,3 +1,4 @@
+-- Each of the seven fields is one step of the format, so the answer is its reading.
 use Rattle.format.specs.Steps.{read-done, read-number}
 use Rattle.ohdr_datatype.specs.DataTypes.{floatProperties}
 use borrow.Author.Needs.{needs}

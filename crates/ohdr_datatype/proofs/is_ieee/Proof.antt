@@ -1,3 +1,4 @@
+-- Single or double: each call is one side of the definition.
 use Rattle.ohdr_datatype.specs.DataTypes.{ieee}
 use borrow.Author.Needs.{needs}
 use Rattle.ohdr_datatype.proofs.is_ieee.Statement.{statement}

@@ -1,3 +1,4 @@
+-- Class by class.
 use borrow.Author.Tests.{ne-eqb}
 use Rattle.ohdr_datatype.specs.DataTypes.{knownClass}
 use Rattle.ohdr_datatype.proofs.known_class.Statement.{statement}

@@ -1,3 +1,4 @@
+-- The high four bits are the version and the low four the class, and both must be known.
 use mathlib.Core.Path.{refl}
 use Rattle.ohdr_datatype.specs.Facts.{class-is}
 use Rattle.ohdr_datatype.specs.DataTypes.{knownType}

@@ -1,3 +1,4 @@
+-- The mask leaves the class, and only class 9 has a list size.
 use Rattle.ohdr_datatype.specs.Facts.{class-is, class-not}
 use Rattle.ohdr_datatype.proofs.list_size.Statement.{statement}
 use Rattle.ohdr_datatype.proofs.list_size.Tie as tie

@@ -1,3 +1,4 @@
+-- The name, its padding and the fields of a version 1 member are each one step of the format.
 use Rattle.format.specs.Steps.{read-done, read-refuse, read-number, read-skip, read-name}
 use Rattle.ohdr_datatype.specs.DataTypes.{member1}
 use Rattle.ohdr_datatype.specs.Facts.{padding}

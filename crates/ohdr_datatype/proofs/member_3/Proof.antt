@@ -1,3 +1,4 @@
+-- The name, its closing zero and the offset of a version 3 member are each one step of the format.
 use Rattle.format.specs.Steps.{read-done, read-number, read-skip, read-name}
 use Rattle.ohdr_datatype.specs.DataTypes.{member3}
 use borrow.Author.Tests.{lt-ltb, le-ltb}

@@ -1,3 +1,4 @@
+-- The version chooses the fields, and what the call reads is the answer.
 use Rattle.ohdr_datatype.specs.DataTypes.{memberFields}
 use borrow.Author.Tests.{eq-eqb, ne-eqb}
 use borrow.Author.Needs.{needs}

@@ -1,3 +1,4 @@
+-- What the attribute's reading gives is shown as its name and its part, or it is refused alike.
 use Rattle.format.specs.Steps.{read-bind, read-done}
 use Rattle.ohdr_entry.specs.Entries.{attributeBody}
 use borrow.Author.Needs.{needs}

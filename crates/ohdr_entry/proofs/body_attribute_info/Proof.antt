@@ -1,3 +1,4 @@
+-- Only the position of the attribute info's reading is kept, or its refusal.
 use borrow.Author.Needs.{needs}
 use Rattle.ohdr_entry.proofs.body_attribute_info.Statement.{statement}
 use Rattle.ohdr_entry.proofs.body_attribute_info.Tie as tie

@@ -1,3 +1,4 @@
+-- What the layout's reading gives is shown as its part, or it is refused alike.
 use Rattle.ohdr_entry.specs.Entries.{layoutBody}
 use Rattle.format.specs.Steps.{read-bind, read-done}
 use borrow.Author.Needs.{needs}

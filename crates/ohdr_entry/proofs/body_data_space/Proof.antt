@@ -1,3 +1,4 @@
+-- Only the position of the dataspace's reading is kept, or its refusal.
 use Rattle.ohdr_entry.specs.Facts.{placed-position}
 use borrow.Author.Needs.{needs}
 use Rattle.ohdr_entry.proofs.body_data_space.Statement.{statement}

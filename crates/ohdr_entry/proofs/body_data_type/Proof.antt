@@ -1,3 +1,4 @@
+-- Only the position of the datatype's reading is kept, or its refusal.
 use borrow.Author.Needs.{needs}
 use Rattle.ohdr_entry.proofs.body_data_type.Statement.{statement}
 use Rattle.ohdr_entry.proofs.body_data_type.Tie as tie

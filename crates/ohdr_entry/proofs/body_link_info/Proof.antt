@@ -1,3 +1,4 @@
+-- Only the position of the link info's reading is kept, or its refusal.
 use borrow.Author.Needs.{needs}
 use Rattle.ohdr_entry.proofs.body_link_info.Statement.{statement}
 use Rattle.ohdr_entry.proofs.body_link_info.Tie as tie

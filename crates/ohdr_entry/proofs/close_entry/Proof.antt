@@ -1,3 +1,4 @@
+-- Where the fields used the whole size nothing is left to pass over; else the rest is.
 use Rattle.ohdr_entry.specs.Facts.{rest-none, rest-some}
 use borrow.Author.Needs.{needs}
 use Rattle.ohdr_entry.proofs.close_entry.Statement.{statement}

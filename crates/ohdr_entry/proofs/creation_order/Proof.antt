@@ -1,3 +1,4 @@
+-- The mask 4 tests header flag bit 2, and the order is one step of the format.
 use Rattle.ohdr_entry.specs.Entries.{creationOrder}
 use Rattle.format.specs.Steps.{read-number, read-done}
 use Rattle.format.specs.Bits.{bit-set, bit-clear}

@@ -1,3 +1,4 @@
+-- The prefix is one step of the format, and its type chooses which call reads the rest.
 use Rattle.ohdr_entry.specs.Entries.{entry}
 use Rattle.format.specs.Steps.{read-bind, read-here}
 use borrow.Author.Tests.{eq-eqb, ne-eqb}

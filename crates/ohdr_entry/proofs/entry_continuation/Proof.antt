@@ -1,3 +1,4 @@
+-- The continuation and the rest of the size are each one step of the format.
 use Rattle.ohdr_entry.specs.Facts.{seen-closed}
 use Rattle.ohdr_entry.specs.Entries.{continuationHeld}
 use Rattle.ohdr_entry.specs.Continuations.{continuationOut}

@@ -1,3 +1,4 @@
+-- The body and the rest of the size are each one step, and the row holds what they gave.
 use mathlib.Core.Path.{sym, _∙_, ap}
 use Rattle.ohdr_entry.specs.Answers.{bodyOut}
 use Rattle.ohdr_entry.specs.Facts.{body-forward, seen-closed, seen-message}

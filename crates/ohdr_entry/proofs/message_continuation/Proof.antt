@@ -1,3 +1,4 @@
+-- Offset and length are each one step of the format, and each test is the format's own.
 use borrow.Author.Tests.{lt-leb, le-leb, not-true, not-false}
 use Rattle.format.specs.Steps.{read-number, read-done, read-refuse}
 use Rattle.ohdr_entry.specs.Continuations.{continuation}

@@ -1,3 +1,4 @@
+-- The type chooses the body, and a plain body shows neither name nor part.
 use borrow.Author.Tests.{eq-eqb, ne-eqb}
 use Rattle.ohdr_entry.specs.Entries.{body}
 use Rattle.ohdr_entry.specs.Facts.{plain-figures}

@@ -1,3 +1,4 @@
+-- Type by type: the position of each body's reading is what its call promises.
 use Rattle.grammar.specs.Message as messages
 use borrow.Author.Tests.{ne-eqb}
 use Rattle.ohdr_entry.specs.Facts.{position-kept, position-self}

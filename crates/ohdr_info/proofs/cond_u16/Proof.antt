@@ -1,3 +1,4 @@
+-- Present, the number is what the call reads; absent, it is zero and nothing is read.
 use Rattle.format.specs.Steps.{read-done}
 use Rattle.ohdr_info.specs.Info.{cond}
 use borrow.Author.Needs.{needs}

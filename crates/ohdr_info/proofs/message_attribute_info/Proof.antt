@@ -1,3 +1,4 @@
+-- Each field is one step of the format, and the masks test the flag bits that bring the optional ones.
 use Rattle.format.specs.Steps.{read-number, read-bind, read-done, read-refuse}
 use borrow.Author.Tests.{eq-eqb, ne-eqb}
 use Rattle.ohdr_info.specs.Info.{attributeInfo}

@@ -1,3 +1,4 @@
+-- Case by case, present or absent.
 use borrow.Author.Needs.{needs}
 use Rattle.ohdr_info.proofs.some_u64.Statement.{statement}
 use Rattle.ohdr_info.proofs.some_u64.Tie as tie

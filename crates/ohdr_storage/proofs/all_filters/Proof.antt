@@ -1,3 +1,4 @@
+-- The reading of all filters from the start is the reading of those left from here, turn by turn.
 use Rattle.ohdr_storage.specs.Storage.{filterOf}
 use Rattle.format.specs.Steps.{read-bind, read-done, times-more, times-none}
 use Rattle.format.specs.Format.{read, times, nothing}

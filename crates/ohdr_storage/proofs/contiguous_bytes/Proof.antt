@@ -1,3 +1,4 @@
+-- Of fewer bytes than the size, the first so many are all of them.
 use lib.Seq.{take-all}
 use borrow.Table.Elements.{length-take-le}
 use native.Mathlib.Omega.{arith}

@@ -1,3 +1,4 @@
+-- A part as long as the size is there just where the file has so many bytes from the address on.
 use Prim.Native.Nat.{_+_, _≤_}
 use lib.ListN.{length}
 use Rattle.ohdr_storage.specs.Facts.{part-cut, part-whole}

@@ -1,3 +1,4 @@
+-- Each field is one step of the format, each test is the format's own, and the call reads the value.
 use mathlib.Core.Path.{_≡_}
 use mathlib.Core.Logic.{⊎-elim}
 use mathlib.Core.Bool.{true, _||_}

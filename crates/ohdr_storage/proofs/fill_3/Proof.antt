@@ -1,3 +1,4 @@
+-- The flags are one step of the format, and the mask 32 tests the bit that brings the value.
 use Rattle.ohdr_storage.specs.Storage.{fill3}
 use Rattle.format.specs.Bits.{bit-set, bit-clear}
 use Rattle.format.specs.Steps.{read-number, read-done}

@@ -1,3 +1,4 @@
+-- The version chooses the filter, and what the call reads is the answer.
 use Rattle.ohdr_storage.specs.Storage.{filterOf}
 use borrow.Author.Tests.{ne-eqb}
 use borrow.Author.Needs.{needs}

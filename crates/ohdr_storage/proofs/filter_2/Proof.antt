@@ -1,3 +1,4 @@
+-- Each field and the values are one step of the format.
 use Rattle.ohdr_storage.specs.Storage.{filter2}
 use borrow.Author.Tests.{lt-leb, le-leb}
 use Rattle.format.specs.Steps.{read-number, read-skip, read-refuse, read-done}

@@ -1,3 +1,4 @@
+-- The size is one step of the format, and so are the bytes passed over.
 use Rattle.ohdr_storage.specs.Storage.{compact}
 use Rattle.format.specs.Steps.{read-number, read-skip, read-done}
 use borrow.Author.Needs.{needs}

@@ -1,3 +1,4 @@
+-- Address, size and data are steps of the format, and each test is the format's own.
 use Rattle.ohdr_storage.specs.Storage.{contiguous}
 use borrow.Author.Tests.{lt-ltb, le-ltb, not-true, not-false}
 use Rattle.format.specs.Steps.{read-number, read-there, read-refuse, read-done}

@@ -1,3 +1,4 @@
+-- The version is one step of the format, and it chooses which call reads the rest.
 use Rattle.ohdr_storage.specs.Facts.{in-range, past-range}
 use Rattle.ohdr_storage.specs.Storage.{fill}
 use Rattle.format.specs.Steps.{read-number, read-refuse}

@@ -1,3 +1,4 @@
+-- Version and class are steps of the format, and the class chooses which call reads the rest.
 use Rattle.ohdr_storage.specs.Storage.{dataLayout}
 use Rattle.format.specs.Steps.{read-number, read-refuse}
 use borrow.Author.Tests.{eq-eqb, ne-eqb}

@@ -1,3 +1,4 @@
+-- Version, count and reserved bytes are steps of the format, and the call reads the filters.
 use mathlib.Core.Path.{_≡_}
 use mathlib.Core.Logic.{⊎-elim}
 use mathlib.Core.Bool.{true, _||_}

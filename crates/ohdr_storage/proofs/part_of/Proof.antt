@@ -1,3 +1,4 @@
+-- Empty or not: the test is that of the definition.
 use borrow.Author.Tests.{ne-eqb}
 use Rattle.ohdr_storage.proofs.part_of.Statement.{statement}
 use Rattle.ohdr_storage.proofs.part_of.Tie as tie

@@ -1,3 +1,4 @@
+-- Only version 1 has the six bytes, which are one number of the format and must be zero.
 use Rattle.ohdr_storage.specs.Storage.{reserved}
 use borrow.Author.Tests.{ne-eqb, eq-eqb}
 use Rattle.format.specs.Steps.{read-number, read-refuse, read-done}

@@ -1,3 +1,4 @@
+-- An entry opens a block one level below, so the calls end; a block's run is walked, turn by turn.
 use borrow.Author.Needs.{needs}
 use Prim.Native.Nat.{_+_, _-_, _*_}
 use Rattle.ohdr_walk.specs.Loop.{Along, ends, stops, goes, falls as shrinks}

@@ -1,3 +1,4 @@
+-- The bytes up to the end are passed over as the format does, so the checksum's bytes are in the file.
 use native.Mathlib.Omega.{arith}
 use borrow.Author.Tests.{not-true, not-false}
 use Rattle.format.specs.Steps.{read-skip, read-refuse, read-done}

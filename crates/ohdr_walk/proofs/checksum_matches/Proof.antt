@@ -1,3 +1,4 @@
+-- The definition is true of every checksum, since none is tested yet.
 use mathlib.Core.Path.{refl}
 use Rattle.ohdr_walk.specs.Sources.{sumMatches}
 use Rattle.ohdr_walk.proofs.checksum_matches.Statement.{statement}

@@ -1,3 +1,4 @@
+-- What closes the block is found or refused, and in either case the definition goes on as the code does.
 use Rattle.grammar.specs.WalkLaws.{found-then, refused-then}
 use Rattle.helpers.specs.Answers.{placeOut}
 use Rattle.helpers.specs.Facts.{met}

@@ -1,3 +1,4 @@
+-- The header's run of entries is what the call walks, and then its end refuses or closes it.
 use Rattle.ohdr_walk.specs.Heading.{unwalked, ajar, shut}
 use borrow.Author.Needs.{needs}
 use Rattle.ohdr_walk.proofs.collect_all_messages.Statement.{statement}

@@ -1,3 +1,4 @@
+-- The bytes up to the end and four more are passed over as the format does, so the checksum is in the file.
 use native.Mathlib.Omega.{arith}
 use borrow.Author.Tests.{not-true, not-false}
 use Rattle.format.specs.Steps.{read-skip, read-refuse, read-done}

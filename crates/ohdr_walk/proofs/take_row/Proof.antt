@@ -1,3 +1,4 @@
+-- Without a free row the definition refuses too; with one, the row that is written is the next.
 use mathlib.Core.Path.{refl}
 use Rattle.grammar.specs.Filled.{Walked, state≡}
 use Rattle.grammar.specs.Walk.{reached}

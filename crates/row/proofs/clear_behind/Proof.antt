@@ -1,3 +1,4 @@
+-- After each turn the words from the rows up to here are zero, and the others are as they were.
 use lib.ListN.{length, take, drop, set, replicate, length-set, drop-of-length-le}
 use native.Mathlib.Omega.{arith}
 use mathlib.Core.List.{List, _++_, append-nil}

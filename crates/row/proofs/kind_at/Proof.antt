@@ -1,3 +1,4 @@
+-- The type is the first word of its row.
 use Rattle.row.specs.Rows.{rowAt}
 use mathlib.Core.Path.{refl}
 use borrow.Author.Needs.{needs}

@@ -1,3 +1,4 @@
+-- The first word tells whether there is a part, and the next two are its position and length.
 use Rattle.row.specs.Rows.{partAt}
 use borrow.Author.Tests.{eq-eqb, ne-eqb}
 use borrow.Author.Needs.{needs}

@@ -1,3 +1,4 @@
+-- Each word is read from its place, and the calls read the name and the part.
 use Rattle.row.specs.Rows.{rowAt}
 use borrow.Author.Needs.{needs}
 use Rattle.row.proofs.row_at.Statement.{statement}

@@ -1,3 +1,4 @@
+-- The buffer that is lent has the length that it was made with.
 use Prim.Native.Nat.{ℕ}
 use lib.ListN.{length-replicate}
 use mathlib.Core.Path.{sym}

@@ -1,3 +1,4 @@
+-- What was written is the listing, so comparing it with what is expected decides.
 use mathlib.Core.Path.{sym, _∙_}
 use borrow.Author.Needs.{needs}
 use Rattle.test_replayer.proofs.lists.Statement.{statement}

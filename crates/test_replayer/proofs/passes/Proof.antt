@@ -1,3 +1,4 @@
+-- Case by case: what the call promises is what is promised here.
 use borrow.Author.Needs.{needs}
 use Rattle.test_replayer.proofs.passes.Statement.{statement}
 use Rattle.test_replayer.proofs.passes.Tie as tie

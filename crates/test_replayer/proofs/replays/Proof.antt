@@ -1,3 +1,4 @@
+-- Without a lead there is no report; with one, the report is compared and must end what is expected.
 use mathlib.Core.Path.{sym, ap, _∙_}
 use native.Mathlib.Omega.{arith}
 use Rattle.listing.specs.Listing.{leadOut}

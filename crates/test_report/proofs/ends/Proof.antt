@@ -1,3 +1,4 @@
+-- A text that was met is all that is expected just where no byte is left; one that differs never is.
 use Rattle.test_report.specs.FollowsLaws.{whole-at, whole-not}
 use borrow.Author.Needs.{needs}
 use Rattle.test_report.proofs.ends.Statement.{statement}

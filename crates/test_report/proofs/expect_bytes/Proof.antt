@@ -1,3 +1,4 @@
+-- The bytes stand next just where as many are left and these are the same.
 use Rattle.test_report.specs.FollowsLaws.{met-none, too-few, next-is, next-is-not}
 use native.Mathlib.Omega.{arith}
 use borrow.Author.Needs.{needs}

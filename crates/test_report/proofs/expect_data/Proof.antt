@@ -1,3 +1,4 @@
+-- The word, the piece and the newline are met one after another.
 use Rattle.test_report.specs.Report.{dataOf}
 use Rattle.test_report.specs.FollowsLaws.{then}
 use borrow.Author.Needs.{needs}

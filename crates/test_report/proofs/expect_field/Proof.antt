@@ -1,3 +1,4 @@
+-- What is written into the small buffer is the field, and the call looks for it.
 use mathlib.Core.Path.{ap}
 use lib.ListN.{length}
 use native.Mathlib.Omega.{arith}

@@ -1,3 +1,4 @@
+-- The four figures are met one after another.
 use Rattle.test_report.specs.Report.{headOf}
 use Rattle.test_report.specs.FollowsLaws.{then}
 use borrow.Author.Needs.{needs}

@@ -1,3 +1,4 @@
+-- A hyphen is met, or the length of the part and then its bytes, one after the other.
 use Rattle.test_report.specs.Report.{pieceOf}
 use Rattle.test_report.specs.FollowsLaws.{then}
 use borrow.Author.Needs.{needs}

@@ -1,3 +1,4 @@
+-- Each record's word and its figures are met one after another.
 use Rattle.test_report.specs.Report.{recordsOf}
 use Rattle.test_report.specs.FollowsLaws.{then}
 use borrow.Author.Needs.{needs}

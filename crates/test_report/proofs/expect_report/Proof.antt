@@ -1,3 +1,4 @@
+-- The first word tells a refusal from a reading; then the parts are met one after another.
 use Rattle.test_report.specs.Report.{answerOf, refusedOf, reportOf}
 use Rattle.test_report.specs.FollowsLaws.{then}
 use borrow.Author.Tests.{ne-eqb, eq-eqb}

@@ -1,3 +1,4 @@
+-- The head, the two pieces and what stands between them are met one after another.
 use Rattle.test_report.specs.Report.{rowLine}
 use Rattle.test_report.specs.FollowsLaws.{then}
 use borrow.Author.Needs.{needs}

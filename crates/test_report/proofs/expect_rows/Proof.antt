@@ -1,3 +1,4 @@
+-- After each turn the lines of the rows so far are met.
 use borrow.Author.Needs.{needs}
 use Rattle.test_report.specs.Follows.{Follows}
 use Rattle.test_report.specs.Report.{rowLines}

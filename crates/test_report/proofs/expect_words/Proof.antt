@@ -1,3 +1,4 @@
+-- After each turn the figures so far are met, and the last ends the line.
 use Rattle.test_report.specs.Laws.{figures-none, figures-more}
 use Rattle.test_report.specs.Report.{figuresOf, wordsLine}
 use Rattle.test_report.specs.FollowsLaws.{then, follows-none}

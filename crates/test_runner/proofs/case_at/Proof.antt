@@ -1,3 +1,4 @@
+-- A case is its three parts, one after another, and it is damaged where one of them is.
 use Rattle.test_runner.specs.Laws.{cut-name, cut-input, cut-expected, case-is}
 use borrow.Author.Needs.{needs}
 use Rattle.test_runner.proofs.case_at.Statement.{statement}

@@ -1,3 +1,4 @@
+-- Case by case: passed or failed.
 use borrow.Author.Needs.{needs}
 use Rattle.test_runner.proofs.count.Statement.{statement}
 use Rattle.test_runner.proofs.count.Tie as tie

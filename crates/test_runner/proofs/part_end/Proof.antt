@@ -1,3 +1,4 @@
+-- The length is read from four bytes, and then that many must be left.
 use mathlib.Core.Path.{sym, ap, _∙_}
 use native.Mathlib.Omega.{arith}
 use Rattle.helpers.specs.Answers.{u32Out}

@@ -1,3 +1,4 @@
+-- After each turn the tally is that of the cases so far, and the rest of the file begins here.
 use Prim.Native.Nat.{_-_}
 use native.Mathlib.Omega.{arith}
 use lib.ListN.{length}

@@ -1,3 +1,4 @@
+-- The ends of the three parts give the input and what is expected, and the call compares them.
 use Rattle.test_runner.specs.Cases.{CaseIs}
 use Rattle.test_runner.specs.Laws.{case-order, input-is, expected-is}
 use borrow.Author.Needs.{needs}

@@ -1,3 +1,4 @@
+-- A file that was read whole is run by the call; what was not read is not run.
 use Prim.Native.Nat.{_<_}
 use mathlib.Core.Path.{sym}
 use native.Mathlib.Omega.{arith}

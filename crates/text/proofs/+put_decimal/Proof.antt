@@ -1,3 +1,4 @@
+-- Below 10 it is one digit; else the digits of n / 10 are written first, and n / 10 is smaller.
 use Rattle.text.specs.Laws.{decimal-one, decimal-more, decimal-long, decimal-short, then}
 use borrow.Author.Needs.{needs}
 use native.Mathlib.Omega.{arith}

@@ -1,3 +1,4 @@
+-- One byte is set in its place, and the others stay.
 use Rattle.text.specs.Laws.{wrote-byte}
 use borrow.Author.Needs.{needs}
 use Rattle.text.proofs.put_byte.Statement.{statement}

@@ -1,3 +1,4 @@
+-- The figure or the hyphen and then the end are written one after another; a figure has at most 20 digits.
 use Rattle.text.specs.Laws.{decimal-20, then}
 use Rattle.text.specs.Text.{field}
 use native.Mathlib.Omega.{arith}

@@ -1,3 +1,4 @@
+-- After each turn the bytes of the text so far are written.
 use mathlib.Core.Path.{_≡_, refl}
 use Rattle.text.specs.Laws.{wrote-more, wrote-none}
 use Rattle.text.specs.Text.{Wrote}

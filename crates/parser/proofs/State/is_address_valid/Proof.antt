@@ -1,3 +1,4 @@
+-- The two tests are those of the definition: above zero, and below the end-of-file address.
 use native.Mathlib.Omega.{arith}
 use borrow.Author.Tests.{lt-ltb}
 use Rattle.parser.proofs.State.is_address_valid.Statement.{statement}

@@ -1,3 +1,4 @@
+-- The definition makes the same four tests of the widths, so the first that fails decides.
 use borrow.Author.Tests.{le-leb, lt-leb}
 use Rattle.parser.proofs.State.new.Statement.{statement}
 use Rattle.parser.proofs.State.new.Tie as tie

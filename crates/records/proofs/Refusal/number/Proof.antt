@@ -1,3 +1,4 @@
+-- Case by case.
 use borrow.Author.Needs.{needs}
 use Rattle.records.proofs.Refusal.number.Statement.{statement}
 use Rattle.records.proofs.Refusal.number.Tie as tie
