@@ -9,11 +9,11 @@ use Rattle.records.specs.Refusals.{refusalNumber}
 use Rattle.records.specs.declared.Part.{Part}
 use Rattle.row.specs.Rows.{rowWords}
 use Rattle.row.specs.Clearing.{table}
-use Rattle.parser.specs.States.{Widths, stateFor}
+use Rattle.parser.specs.States.{fileLimit, Widths, stateFor}
 use Rattle.grammar.specs.Grammar.{Item}
 use Rattle.grammar.specs.Table.{messagesOf, messages, rowsOf}
 use Rattle.grammar.specs.Walk.{Went, reached, stopped, entryLimit, lent}
-use Rattle.data_object_header.specs.Headers.{HeaderReading, fileLimit, decode}
+use Rattle.data_object_header.specs.Headers.{HeaderReading, decode}
 use Rattle.data_object_winners.specs.Wins.{Wins, defaults, winsOf}
 use Rattle.data_object.specs.declared.Answer.{Answer}
 use Rattle.data_object.specs.declared.Answer.the-variants as answers

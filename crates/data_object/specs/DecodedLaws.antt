@@ -14,7 +14,7 @@ use Rattle.row.specs.Rows.{rowWords, firstRows, encode}
 use Rattle.row.specs.Clearing.{table, cleared-rows}
 use Rattle.parser.specs.declared.State.{State}
 use Rattle.parser.specs.declared.NewState.the-variants as states
-use Rattle.parser.specs.States.{stateOf}
+use Rattle.parser.specs.States.{fileLimit, stateOf}
 use Rattle.parser.specs.StateLaws.{made, made-widths}
 use Rattle.grammar.specs.Grammar.{Item}
 use Rattle.grammar.specs.Table.{messagesOf, messages, rowsOf}
@@ -33,7 +33,7 @@ use Rattle.data_object_header.specs.Answers.{fieldsOut}
 use Rattle.data_object_header.specs.declared.HeaderFields.{HeaderFields}
 use Rattle.data_object_header.specs.declared.FieldsRead.{FieldsRead}
 use Rattle.data_object_header.specs.declared.FieldsRead.the-variants as fields
-use Rattle.data_object_header.specs.Headers.{headerFields, HeaderReading, fileLimit, header}
+use Rattle.data_object_header.specs.Headers.{headerFields, HeaderReading, header}
 use Rattle.data_object_header.specs.HeaderLaws.{header-accepts, unread, walked, starts-after, starts-inside, size-small, goes-on, decode-complete}
 use Rattle.data_object_winners.specs.Wins.{Wins, defaults, winsOf}
 use Rattle.data_object_winners.specs.Winners.{lastIn, winner}

@@ -30,9 +30,8 @@ ghost use mathlib.Core.Path.{_≡_};
 ghost use Prim.Native.Nat.{_/_, _≤_};
 ghost use lib.ListN.{length};
 ghost use Rattle.row.specs.Rows.{rowWords};
-ghost use Rattle.parser.specs.States.{Widths};
+ghost use Rattle.parser.specs.States.{fileLimit, Widths};
 ghost use Rattle.ohdr_walk.specs.Code.{walkOut};
-ghost use Rattle.data_object_header.specs.Headers.{fileLimit};
 ghost use Rattle.data_object.specs.Decoded.{Decoded, bytesOf};
 ghost use Rattle.data_object.specs.DecodedLaws.{Built, RejectedAs, headerOn};
 

@@ -20,7 +20,7 @@ use Rattle.records.specs.declared.Refusal.{Refusal}
 use Rattle.helpers.specs.Facts.{met}
 use Rattle.parser.specs.declared.State.{State}
 use Rattle.parser.specs.declared.NewState.the-variants as states
-use Rattle.parser.specs.States.{Widths, stateFor, stateOf}
+use Rattle.parser.specs.States.{fileLimit, Widths, stateFor, stateOf}
 use Rattle.parser.specs.StateLaws.{made, unmade, allowed}
 use Rattle.grammar.specs.Grammar.{Item, Reading}
 use Rattle.grammar.specs.Walk.{reached, stopped, begun, Limits, start, walk}
@@ -32,7 +32,7 @@ use Rattle.data_object_header.specs.Answers.{fieldsOut}
 use Rattle.data_object_header.specs.declared.HeaderFields.{HeaderFields}
 use Rattle.data_object_header.specs.declared.FieldsRead.{FieldsRead}
 use Rattle.data_object_header.specs.declared.FieldsRead.the-variants as fields
-use Rattle.data_object_header.specs.Headers.{ohdr, headerFields, HeaderReading, fileLimit, header, decode}
+use Rattle.data_object_header.specs.Headers.{ohdr, headerFields, HeaderReading, header, decode}
 
 module _ (file : List ℕ) (s : State) where
   header-sound : (l : Limits) (at next : ℕ) (xs : List Item) → header file s l at ≡ reached xs next → HeaderReading file s at next xs × Fit l start xs

@@ -7,7 +7,7 @@ use lib.Dec.{eqb, leb}
 use Rattle.format.specs.Bits.{bit}
 use Rattle.format.specs.Format.{Format, done, number, skip, bind, check, pick, signature, Stands, read}
 use Rattle.parser.specs.declared.State.{State}
-use Rattle.parser.specs.States.{widthAllowed, stateFor}
+use Rattle.parser.specs.States.{fileLimit, widthAllowed, stateFor}
 use Rattle.grammar.specs.Grammar.{Item, Reading}
 use Rattle.grammar.specs.Walk.{choose, Went, stopped, andThen, begun, Limits, walk}
 use Rattle.ohdr_walk.specs.Sources.{source}
@@ -44,10 +44,6 @@ unfoldable pub header : List ℕ → State → Limits → ℕ → Went (List Ite
 header file s l at =
     andThen (begun 0 (read file headerFields at)) (λ f start.
     walk (source file s (f .flags)) l at (start + f .size) start)
-
--- the largest file
-abbrev pub fileLimit : ℕ
-fileLimit = 2147483648
 
 -- 1, then 2, come first
 unfoldable pub decode : List ℕ → ℕ → ℕ → ℕ → ℕ → Limits → Went (List Item)

@@ -1,17 +1,21 @@
--- What is handed over for a part, and for a header that is refused. Assumes nothing.
+-- What is handed over for a part, and for a header or a file that is refused. Assumes nothing.
 use Prim.Native.Nat.{ℕ, _+_, _≤_, _<_}
 use mathlib.Core.Path.{_≡_, refl, ap}
 use mathlib.Core.List.{List, _∷_}
 use native.Mathlib.Omega.{arith}
 use lib.ListN.{length, getD, replicate}
 use borrow.Author.Tests.{le-leb, lt-leb}
+use Rattle.format.specs.Format.{Out, found, refused}
 use Rattle.records.specs.declared.Part.{Part}
+use Rattle.super_block.specs.declared.SuperBlock.{SuperBlock}
+use Rattle.super_block.specs.SuperBlocks.{superBlockOf}
 use Rattle.data_object_winners.specs.Wins.{Wins}
 use Rattle.data_object.specs.declared.Answer.{Answer}
 use Rattle.data_object.specs.declared.Answer.the-variants as answers
 use Rattle.data_object.specs.Decoded.{Meant}
 use Rattle.firmware.specs.Words.{noPart, inWords}
 use Rattle.data_object_words.specs.Handed.{Handed}
+use Rattle.data_object_root.specs.Root.{HandedBy, HandedRoot}
 use Rattle.firmware.specs.Handed.{HandedPart}
 
 module _ (file : List ℕ) (p : Part) where
@@ -53,3 +57,12 @@ module _ {file : List ℕ} {offsets lengths end at n : ℕ} {t w : List ℕ} (h 
 
   pub refused-words : (getD w 0 0 ≡ 0 → ⊥) → (w ≡ getD w 0 0 ∷ replicate 53 0) × (t ≡ replicate n 0)
   refused-words f = by-answer (h .object .answer) refl (h .decoded .meant) f
+
+-- The same of a file whose superblock or whose root's header is refused.
+module _ (file : List ℕ) (n : ℕ) (t w : List ℕ) where
+  by-block : (o : Out SuperBlock) → HandedBy file n t w o → (getD w 0 0 ≡ 0 → ⊥) → (w ≡ getD w 0 0 ∷ replicate 53 0) × (t ≡ replicate n 0)
+  by-block (found b q) h f = refused-words h f
+  by-block (refused r) h f = (rw (h .1), h .0)
+
+  pub refused-root : HandedRoot file n t w → (getD w 0 0 ≡ 0 → ⊥) → (w ≡ getD w 0 0 ∷ replicate 53 0) × (t ≡ replicate n 0)
+  refused-root h f = by-block (superBlockOf file) h f

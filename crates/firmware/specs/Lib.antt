@@ -1,4 +1,5 @@
 pub mod Words
+pub mod Blocks
 pub mod Handed
 pub mod Laws
 pub mod Unique

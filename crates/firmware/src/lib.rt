@@ -1,14 +1,21 @@
 // The project's operations for firmware: C functions on numbers and byte slices. None requires
 // anything of its caller.
+use data_object_root::root_words;
 use data_object_words::header_words;
-use listing::list;
+use listing_text::list;
 use lookup::LookupAnswer;
 use lookup::lookup;
+use super_block::SuperBlockRead;
+use super_block::super_block;
 ghost use mathlib.Core.Path.{_≡_};
 ghost use lib.ListN.{length, take, drop};
-ghost use Rattle.listing.specs.Listing.{listingOf, Counts};
-ghost use Rattle.firmware.specs.Words.{foundRow, lookupOf};
+ghost use Rattle.listing_text.specs.Listing.{listingOf, Counts};
+ghost use Rattle.super_block.specs.SuperBlocks.{superBlockOf};
+ghost use Rattle.super_block.specs.Answers.{superBlockOut};
 ghost use Rattle.data_object_words.specs.Handed.{Handed};
+ghost use Rattle.data_object_root.specs.Root.{HandedRoot};
+ghost use Rattle.firmware.specs.Words.{foundRow, lookupOf};
+ghost use Rattle.firmware.specs.Blocks.{blockOf};
 ghost use Rattle.firmware.specs.Handed.{HandedRow, HandedPart};
 
 // Bytes of the file, from a position on.
@@ -16,6 +23,18 @@ ghost use Rattle.firmware.specs.Handed.{HandedRow, HandedPart};
 pub struct PartWords {
     pub position: u64,
     pub length: u64,
+}
+
+// A superblock: 0 or the number of its refusal, and its fields, which are 0 where it is refused.
+#[repr(C)]
+pub struct SuperBlockWords {
+    pub refused: u64,
+    pub size_of_offsets: u64,
+    pub size_of_lengths: u64,
+    pub base_address: u64,
+    pub superblock_extension_address: u64,
+    pub end_of_file_address: u64,
+    pub root_group_object_header_address: u64,
 }
 
 // A lookup: 0 or the number of its refusal, whether a row was found (1 or 0), and that row.
@@ -47,6 +66,52 @@ fn lookup_words(answer: LookupAnswer) -> LookupWords
             found_row(number, 0, 0)
         }
     }
+}
+
+fn super_block_words(answer: SuperBlockRead) -> SuperBlockWords
+    ensures { λ r. ⌜ r ≡ blockOf (superBlockOut answer) ⌝ }
+{
+    match answer {
+        SuperBlockRead::Refused(refusal) => {
+            let number = refusal.number();
+            SuperBlockWords {
+                refused: number,
+                size_of_offsets: 0,
+                size_of_lengths: 0,
+                base_address: 0,
+                superblock_extension_address: 0,
+                end_of_file_address: 0,
+                root_group_object_header_address: 0,
+            }
+        }
+        SuperBlockRead::Read(block, _) => SuperBlockWords {
+            refused: 0,
+            size_of_offsets: block.size_of_offsets as u64,
+            size_of_lengths: block.size_of_lengths as u64,
+            base_address: block.base_address,
+            superblock_extension_address: block.superblock_extension_address,
+            end_of_file_address: block.end_of_file_address,
+            root_group_object_header_address: block.root_group_object_header_address,
+        },
+    }
+}
+
+// The superblock of a plain file.
+#[no_mangle]
+pub extern "C" fn dowringaf_super_block(file: &[u8]) -> SuperBlockWords
+    ensures { λ r. ⌜ r ≡ blockOf (superBlockOf (now (file .entry))) ⌝ }
+{
+    let answer = super_block(file);
+    super_block_words(answer)
+}
+
+// The root's object header of a plain file: its messages in the table, and its words in the order
+// of `wordsOf`.
+#[no_mangle]
+pub extern "C" fn dowringaf_root_object(file: &[u8], table: &mut [u64], words: &mut [u64; 54])
+    ensures { λ _. ⌜ HandedRoot (now (file .entry)) (length (now (table .entry))) (now (table .exit)) (now (words .exit)) ⌝ }
+{
+    root_words(file, table, words);
 }
 
 // An object header at a position: its messages in the table, and its words in the order of
@@ -112,13 +177,13 @@ pub extern "C" fn dowringaf_layout_data(file: &[u8], position: usize, length: us
     }
 }
 
-// The listing of an input, put at the start of out; the answer is its length, and what stands behind
-// it is left alone.
+// The listing of a plain file, put at the start of out; the answer is its length, and what stands
+// behind it is left alone.
 #[no_mangle]
-pub extern "C" fn dowringaf_list(input: &[u8], out: &mut [u8; 98304]) -> usize
+pub extern "C" fn dowringaf_list(file: &[u8], out: &mut [u8; 98304]) -> usize
     ensures { λ r. ⌜ Counts r (now (out .exit)) ⌝ }
-    ensures { λ r. ⌜ take r (now (out .exit)) ≡ listingOf (now (input .entry)) ⌝ }
+    ensures { λ r. ⌜ take r (now (out .exit)) ≡ listingOf (now (file .entry)) ⌝ }
     ensures { λ r. ⌜ drop r (now (out .exit)) ≡ drop r (now (out .entry)) ⌝ }
 {
-    list(input, out)
+    list(file, out)
 }

@@ -38,7 +38,7 @@ module _ (offsets lengths end : ℕ) where
   pub allowed : Widths (stateFor offsets lengths end) → allow ≡ true
   allowed w = rw (le-leb 2 offsets (w .offsets-least), le-leb offsets 8 (w .offsets), le-leb 2 lengths (w .lengths-least), le-leb lengths 8 (w .lengths))
 
-  widths-of : allow ≡ true → Widths (stateFor offsets lengths end)
+  pub widths-of : allow ≡ true → Widths (stateFor offsets lengths end)
   widths-of t =
       let a = and-left (widthAllowed offsets) (widthAllowed lengths) t in
       let b = and-right (widthAllowed offsets) (widthAllowed lengths) t in

@@ -1,4 +1,4 @@
--- Widths, the end-of-file address, and which addresses lie in the file. Assumes nothing: these are definitions.
+-- The largest file, widths, the end-of-file address, and which addresses lie in the file. Assumes nothing: these are definitions.
 use Prim.Native.Nat.{ℕ, _≤_}
 use mathlib.Core.Bool.{Bool, _&&_}
 use lib.Dec.{leb, ltb}
@@ -7,6 +7,10 @@ use Rattle.records.specs.declared.Refusal.the-variants as refusals
 use Rattle.parser.specs.declared.State.{State}
 use Rattle.parser.specs.declared.NewState.{NewState}
 use Rattle.parser.specs.declared.NewState.the-variants as states
+
+-- the largest file
+abbrev pub fileLimit : ℕ
+fileLimit = 2147483648
 
 -- a width that is allowed: 2 to 8 bytes
 abbrev pub widthAllowed : ℕ → Bool

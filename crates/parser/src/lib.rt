@@ -2,7 +2,7 @@
 // end-of-file address.
 use records::Refusal;
 ghost use mathlib.Core.Path.{_≡_};
-ghost use Rattle.parser.specs.States.{stateOf, addressValid};
+ghost use Rattle.parser.specs.States.{widthAllowed, stateOf, addressValid};
 
 // The widths are in bytes.
 pub struct State {
@@ -16,21 +16,25 @@ pub enum NewState {
     Refused(Refusal),
 }
 
+// A width of 2 to 8 bytes.
+pub fn width_allowed(width: u64) -> bool
+    ensures { λ r. ⌜ r ≡ widthAllowed width ⌝ }
+{
+    if width < 2 {
+        return false;
+    }
+    width <= 8
+}
+
 impl State {
     // Widths other than 2 to 8 are refused.
     pub fn new(size_of_offsets: u64, size_of_lengths: u64, end_of_file_address: u64) -> NewState
         ensures { λ r. ⌜ r ≡ stateOf «size_of_offsets» «size_of_lengths» «end_of_file_address» ⌝ }
     {
-        if size_of_offsets < 2 {
+        if !width_allowed(size_of_offsets) {
             return NewState::Refused(Refusal::Width);
         }
-        if 8 < size_of_offsets {
-            return NewState::Refused(Refusal::Width);
-        }
-        if size_of_lengths < 2 {
-            return NewState::Refused(Refusal::Width);
-        }
-        if 8 < size_of_lengths {
+        if !width_allowed(size_of_lengths) {
             return NewState::Refused(Refusal::Width);
         }
         NewState::Made(State {

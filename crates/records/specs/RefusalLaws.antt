@@ -8,7 +8,7 @@ use Rattle.records.specs.Refusals.{refusalNumber}
 use Rattle.records.specs.declared.Refusal.{Refusal}
 use Rattle.records.specs.declared.Refusal.the-variants as refusals
 
--- each refusal at its number; no refusal has the numbers 0 and 25 to 27
+-- each refusal at its number; no refusal has the number 0
 inOrder : List Refusal
 inOrder =
     refusals.Width
@@ -36,9 +36,9 @@ inOrder =
     ∷ refusals.TypeLevel
     ∷ refusals.Entries
     ∷ refusals.Table
-    ∷ refusals.Width
-    ∷ refusals.Width
-    ∷ refusals.Width
+    ∷ refusals.SuperBlockSignature
+    ∷ refusals.SuperBlockVersion
+    ∷ refusals.BaseAddress
     ∷ refusals.Checksum
     ∷ []
 
@@ -68,6 +68,9 @@ given-back refusals.BlockLevel = refl
 given-back refusals.TypeLevel = refl
 given-back refusals.Entries = refl
 given-back refusals.Table = refl
+given-back refusals.SuperBlockSignature = refl
+given-back refusals.SuperBlockVersion = refl
+given-back refusals.BaseAddress = refl
 given-back refusals.Checksum = refl
 
 -- no refusal has the number 0

@@ -28,4 +28,7 @@ refusalNumber refusals.BlockLevel = 21
 refusalNumber refusals.TypeLevel = 22
 refusalNumber refusals.Entries = 23
 refusalNumber refusals.Table = 24
+refusalNumber refusals.SuperBlockSignature = 25
+refusalNumber refusals.SuperBlockVersion = 26
+refusalNumber refusals.BaseAddress = 27
 refusalNumber refusals.Checksum = 28

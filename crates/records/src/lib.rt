@@ -1,10 +1,10 @@
 // The records of a data object, by value, as data_object.rs and fractal_heap.rs declare them, and
-// the reasons for which a header is refused.
+// the reasons for which a file or a header is refused.
 ghost use mathlib.Core.Path.{_≡_};
 ghost use Rattle.records.specs.Refusals.{refusalNumber};
 ghost use Rattle.records.specs.Defaults.{noDimensions, defaultDataSpace, defaultLinkInfo, defaultGroupInfo, defaultAttributeInfo, defaultDataType};
 
-// Why a header is refused. `refusalNumber` gives each its number.
+// Why a file or a header is refused. `refusalNumber` gives each its number.
 pub enum Refusal {
     // 1: width not 2 to 8
     Width,
@@ -54,6 +54,12 @@ pub enum Refusal {
     Entries,
     // 24: table too small
     Table,
+    // 25: not the format signature of a superblock
+    SuperBlockSignature,
+    // 26: superblock version
+    SuperBlockVersion,
+    // 27: base address
+    BaseAddress,
     // 28: checksum; no test of it fails yet
     Checksum,
 }
@@ -87,6 +93,9 @@ impl Refusal {
             Refusal::TypeLevel => 22,
             Refusal::Entries => 23,
             Refusal::Table => 24,
+            Refusal::SuperBlockSignature => 25,
+            Refusal::SuperBlockVersion => 26,
+            Refusal::BaseAddress => 27,
             Refusal::Checksum => 28,
         }
     }

@@ -8,12 +8,30 @@ use Rattle.format.specs.Format.{found, read, bind}
 use Rattle.format.specs.Laws.{sound}
 use Rattle.standard.specs.Fields.{absent, present, optional, raw, many}
 use Rattle.standard.specs.Versions.{marked}
+use Rattle.standard.specs.Superblocks.{superblock23}
 use Rattle.standard.specs.Headers.{objectHeaderPrefix, messagePrefix, HeaderMessage, headerMessage, continuationMessage, continuationSignature}
 use Rattle.standard.specs.Chunks.{gap, next, continued, block, ObjectHeader}
 use Rattle.standard.specs.Dataspaces.{not-stored, stored, storedSizes, dataspace1, dataspace2}
 use Rattle.standard.specs.Infos.{linkInfoMessage, groupInfoMessage, attributeInfoMessage}
 use Rattle.standard.specs.Storage.{fillValueOld, not-present, size-and-fill-value, sizeAndFillValue, fillFields12, fillValue12, fillValue3, compactStorage, contiguousStorage, compact, contiguous, layoutProperties, dataLayout3}
 use Rattle.standard.specs.Storage.{filterFields1, filterDescription1, pipelineFields1, filterPipeline1, filterFields2, filterDescription2, pipelineFields2, filterPipeline2}
+
+-- version 3, offsets of 2 bytes and lengths of 4, and in every other field a value of its own
+pub a-superblock : read (137 ∷ 72 ∷ 68 ∷ 70 ∷ 13 ∷ 10 ∷ 26 ∷ 10 ∷ 3 ∷ 2 ∷ 4 ∷ 5 ∷ 1 ∷ 6 ∷ 2 ∷ 7 ∷ 3 ∷ 8 ∷ 4 ∷ 9 ∷ 10 ∷ 0 ∷ 11 ∷ 0 ∷ []) superblock23 0
+    ≡ found (record {
+      format-signature = 0x0A1A0A0D46444889;
+      version-number = 3;
+      size-of-offsets = 2;
+      size-of-lengths = 4;
+      file-consistency-flags = 5;
+      base-address = 0x0601;
+      superblock-extension-address = 0x0702;
+      end-of-file-address = 0x0803;
+      root-group-object-header-address = 0x0904;
+      superblock-checksum = 0x000B000A;
+    }) 24
+unfolding read le superblock23
+a-superblock = refl
 
 -- flags with times, numbers of attributes, and a chunk size of 4 bytes
 pub an-object-header : read (0x4F ∷ 0x48 ∷ 0x44 ∷ 0x52 ∷ 2 ∷ 0b110010 ∷ 1 ∷ 0 ∷ 0 ∷ 0 ∷ 2 ∷ 0 ∷ 0 ∷ 0 ∷ 3 ∷ 0 ∷ 0 ∷ 0 ∷ 4 ∷ 0 ∷ 0 ∷ 0 ∷ 8 ∷ 0 ∷ 6 ∷ 0 ∷ 10 ∷ 1 ∷ 0 ∷ 0 ∷ []) objectHeaderPrefix 0

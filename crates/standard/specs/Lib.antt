@@ -4,6 +4,7 @@ pub mod TieMore
 pub mod Versions
 pub mod Untested
 pub mod Headers
+pub mod Superblocks
 pub mod Chunks
 pub mod Dataspaces
 pub mod Infos

@@ -1,11 +1,13 @@
-// Runs the cases of the file `cases` against their listings and those of the file `messages` against
-// their reports, names each that fails, and says how many of each it ran.
+// Runs the plain files of the file `files` against their listings, the headers of the file `cases`
+// against theirs and those of the file `messages` against their reports, names each that fails, and
+// says how many of each it ran.
 use test_replayer::Against;
 use test_runner::run_file;
 use test_runner::tell;
 
 fn run_files(buf: &mut [u8]) {
-    tell(b"cases", run_file(Against::Listing, b"cases", buf));
+    tell(b"files", run_file(Against::Listing, b"files", buf));
+    tell(b"cases", run_file(Against::HeaderListing, b"cases", buf));
     tell(b"messages", run_file(Against::Report, b"messages", buf));
 }
 

@@ -1,22 +1,43 @@
--- Laws of replaying. Assumes nothing.
-use Prim.Native.Nat.{ℕ, _*_, _≤_}
+-- Laws of leads and of replaying. Assumes nothing.
+use Prim.Native.Nat.{ℕ, _-_, _*_, _≤_}
+use mathlib.Core.Path.{_≡_, sym, _∙_}
 use mathlib.Core.Bool.{Bool}
 use mathlib.Core.List.{List}
 use native.Mathlib.Omega.{arith}
-use lib.ListN.{length, getD, replicate, length-replicate}
+use lib.ListN.{length, getD, take, drop, replicate, length-drop, length-replicate}
+use lib.Seq.{take-all}
+use Rattle.format.specs.Format.{read}
+use Rattle.format.specs.Laws.{sound}
+use Rattle.helpers.specs.Facts.{met}
 use Rattle.row.specs.Rows.{rowWords}
 use Rattle.data_object_words.specs.Handed.{Handed}
 use Rattle.data_object_words.specs.Told.{rows-told}
-use Rattle.listing.specs.declared.Lead.{Lead}
 use Rattle.test_report.specs.declared.Matched.{Matched}
 use Rattle.test_report.specs.Follows.{Follows, Whole, start}
 use Rattle.test_report.specs.Report.{reportOf}
-use Rattle.test_replayer.specs.Replays.{Answered}
+use Rattle.test_replayer.specs.declared.Lead.{Lead}
+use Rattle.test_replayer.specs.declared.LeadRead.{LeadRead}
+use Rattle.test_replayer.specs.declared.LeadRead.the-variants as leads
+use Rattle.test_replayer.specs.Leads.{lead, leadOut, Compared}
+use Rattle.test_replayer.specs.Replays.{Replays}
+
+-- the file behind a lead that was read begins within the input
+pub lead-inside : (s : List ℕ) {r : LeadRead} {l : Lead} {q : ℕ} → leadOut r ≡ read s lead 0 → r ≡ leads.Read l q → q ≤ length s
+unfolding lead
+lead-inside s {l = l} {q = q} e f = let h = sound s lead 0 q l (met leadOut e f) in omega (arith, h .1 .1 .1 .0, h .1 .1 .1 .1 .0)
+
+-- a part up to the end is what is left
+pub part-rest : (n : ℕ) (s : List ℕ) → take (length s - n) (drop n s) ≡ drop n s
+part-rest n s = take-all (length s - n) (drop n s) (omega (arith, length-drop n s))
+
+-- what holds of a comparison with bytes holds of one with the text that they are
+pub compared : {xs text expected : List ℕ} {b : Bool} → xs ≡ text → Compared xs expected b → Compared text expected b
+compared e c = (λ h. sym e ∙ c .0 h, λ h. c .1 (e ∙ h))
 
 -- decoding into 64 empty rows
 module _ (file : List ℕ) (l : Lead) (t w : List ℕ) (h : Handed file (l .offsets) (l .lengths) (l .«end_of_file») (l .position) (length (replicate {A = ℕ} (64 * rowWords) 0)) t w) where
   pub few-rows : getD w 3 0 ≤ 64
   few-rows = omega (arith, rows-told h, length-replicate {A = ℕ} (64 * rowWords) 0)
 
-  pub answered : (expected : List ℕ) (reached : Matched) (b : Bool) → Follows expected start reached (reportOf file t w) → Whole expected reached b → Answered file l expected b
+  pub answered : (expected : List ℕ) (reached : Matched) (b : Bool) → Follows expected start reached (reportOf file t w) → Whole expected reached b → Replays expected file l b
   answered expected reached b f v = record { table = t; words = w; handed = rw (length-replicate {A = ℕ} (64 * rowWords) 0) at h; says = v (reportOf file t w) f }

@@ -1,3 +1,4 @@
+pub mod Leads
 pub mod Passes
 pub mod Replays
 pub mod Laws

@@ -5,13 +5,13 @@ use mathlib.Core.Bool.{Bool, true, false}
 use mathlib.Core.List.{List}
 use Rattle.row.specs.Rows.{rowWords}
 use Rattle.data_object_words.specs.Unique.{handed-unique}
-use Rattle.listing.specs.declared.Lead.{Lead}
 use Rattle.test_report.specs.Report.{reportOf}
-use Rattle.test_replayer.specs.Replays.{Answered}
+use Rattle.test_replayer.specs.declared.Lead.{Lead}
+use Rattle.test_replayer.specs.Replays.{Replays}
 
 -- no answer is both given and not given
-pub one-answer : (file : List ℕ) (l : Lead) (expected : List ℕ) (b b′ : Bool) → Answered file l expected b → Answered file l expected b′ → b ≡ b′
-one-answer file l expected b b′ a a′ = go b b′ (λ h. a′ .says .1 (sym report ∙ a .says .0 h)) (λ h. a .says .1 (report ∙ a′ .says .0 h))
+pub one-answer : (expected file : List ℕ) (l : Lead) (b b′ : Bool) → Replays expected file l b → Replays expected file l b′ → b ≡ b′
+one-answer expected file l b b′ a a′ = go b b′ (λ h. a′ .says .1 (sym report ∙ a .says .0 h)) (λ h. a .says .1 (report ∙ a′ .says .0 h))
   where
     report : reportOf file (a .table) (a .words) ≡ reportOf file (a′ .table) (a′ .words)
     report =

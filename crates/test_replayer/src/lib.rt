@@ -1,21 +1,68 @@
 // Whether a case passes: its input has the listing, or the report of its header, that is expected.
 use data_object_words::header_words;
-use listing::LeadRead;
-use listing::list;
-use listing::read_lead;
+use helpers::ReadU8;
+use helpers::ReadU64;
+use helpers::le_u8;
+use helpers::le_u64;
+use listing_text::list;
+use listing_text::list_header;
 use row::ROW_WORDS;
 use test_report::ends;
 use test_report::expect_report;
-ghost use Rattle.test_replayer.specs.Passes.{Lists, Says};
+ghost use mathlib.Core.Path.{_≡_};
+ghost use Rattle.format.specs.Format.{read};
+ghost use Rattle.test_replayer.specs.Leads.{lead as leadFormat, leadOut};
+ghost use Rattle.test_replayer.specs.Passes.{Lists, ListsHeader, HeaderSays, Says};
 ghost use Rattle.test_replayer.specs.Replays.{Replays};
 
-// What is expected of an input.
+// What is expected of an input: the listing of a plain file; or, of a header in a file behind the
+// values that are given by hand, its listing or its report.
 pub enum Against {
     Listing,
+    HeaderListing,
     Report,
 }
 
-// Whether an input has the listing that is expected.
+// What is given by hand, before the file: the widths of offsets and lengths, the end-of-file address
+// and the position of the header.
+pub struct Lead {
+    pub offsets: u8,
+    pub lengths: u8,
+    pub end_of_file: u64,
+    pub position: u64,
+}
+
+// The lead bytes and where the file begins, or too few of them.
+pub enum LeadRead {
+    Read(Lead, usize),
+    Short,
+}
+
+fn read_lead(input: &[u8]) -> LeadRead
+    ensures { λ r. ⌜ leadOut r ≡ read (now (input .entry)) leadFormat 0 ⌝ }
+{
+    let ReadU8::Value(offsets, at) = le_u8(input, 0) else {
+        return LeadRead::Short;
+    };
+    let ReadU8::Value(lengths, at) = le_u8(input, at) else {
+        return LeadRead::Short;
+    };
+    let ReadU64::Value(end_of_file, at) = le_u64(input, at) else {
+        return LeadRead::Short;
+    };
+    let ReadU64::Value(position, at) = le_u64(input, at) else {
+        return LeadRead::Short;
+    };
+    let lead = Lead {
+        offsets,
+        lengths,
+        end_of_file,
+        position,
+    };
+    LeadRead::Read(lead, at)
+}
+
+// Whether a plain file has the listing that is expected.
 fn lists(input: &[u8], expected: &[u8]) -> bool
     ensures { λ r. ⌜ Lists (now (input .entry)) (now (expected .entry)) r ⌝ }
 {
@@ -24,14 +71,26 @@ fn lists(input: &[u8], expected: &[u8]) -> bool
     check::same(&out[..n], expected)
 }
 
-// Whether the header of an input, decoded into a table of 64 rows, has the report that is expected.
-fn replays(input: &[u8], expected: &[u8]) -> bool
-    ensures { λ r. ⌜ Replays (now (input .entry)) (now (expected .entry)) r ⌝ }
+// Whether the header of a file has the listing that is expected.
+fn lists_header(file: &[u8], by_hand: Lead, expected: &[u8]) -> bool
+    ensures { λ r. ⌜ ListsHeader (now (expected .entry)) (now (file .entry)) «by_hand» r ⌝ }
 {
-    let LeadRead::Read(lead, start) = read_lead(input) else {
-        return false;
-    };
-    let file = &input[start..];
+    let mut out = [0u8; 98304];
+    let count = list_header(
+        file,
+        by_hand.position,
+        by_hand.offsets as u64,
+        by_hand.lengths as u64,
+        by_hand.end_of_file,
+        &mut out,
+    );
+    check::same(&out[..count], expected)
+}
+
+// Whether the header of a file, decoded into a table of 64 rows, has the report that is expected.
+fn replays(file: &[u8], lead: Lead, expected: &[u8]) -> bool
+    ensures { λ r. ⌜ Replays (now (expected .entry)) (now (file .entry)) lead r ⌝ }
+{
     let mut table = [0u64; 64 * ROW_WORDS];
     let mut words = [0u64; 54];
     header_words(
@@ -47,11 +106,27 @@ fn replays(input: &[u8], expected: &[u8]) -> bool
     ends(expected, reached)
 }
 
+// Whether the header behind the values given by hand has the listing, or else the report, that is
+// expected.
+fn passes_header(listing: bool, input: &[u8], expected: &[u8]) -> bool
+    ensures { λ r. ⌜ HeaderSays listing (now (input .entry)) (now (expected .entry)) r ⌝ }
+{
+    let LeadRead::Read(lead, start) = read_lead(input) else {
+        return false;
+    };
+    let file = &input[start..];
+    if listing {
+        return lists_header(file, lead, expected);
+    }
+    replays(file, lead, expected)
+}
+
 pub fn passes(against: Against, input: &[u8], expected: &[u8]) -> bool
     ensures { λ r. ⌜ Says against (now (input .entry)) (now (expected .entry)) r ⌝ }
 {
     match against {
         Against::Listing => lists(input, expected),
-        Against::Report => replays(input, expected),
+        Against::HeaderListing => passes_header(true, input, expected),
+        Against::Report => passes_header(false, input, expected),
     }
 }

@@ -1,5 +1,5 @@
 -- What was written is the listing, so comparing it with what is expected decides.
-use mathlib.Core.Path.{sym, _∙_}
+use Rattle.test_replayer.specs.Laws.{compared}
 use borrow.Author.Needs.{needs}
 use Rattle.test_replayer.proofs.lists.Statement.{statement}
 use Rattle.test_replayer.proofs.lists.Tie as tie
@@ -17,7 +17,7 @@ same-requires : tie.Need-same-requires
 same-requires c κs = search needs
 
 returns : tie.Need-returns
-returns c = (λ h. sym (c .before .before .list .ensures .1 .0) ∙ c .same .ensures .0 h, λ h. c .same .ensures .1 (c .before .before .list .ensures .1 .0 ∙ h))
+returns c = compared (c .before .before .list .ensures .1 .0) (c .same .ensures)
 
 pub lists-spec : {M : Type 1} → statement M
 lists-spec =

@@ -12,15 +12,34 @@ lists-requires c κs = search needs
 enum-told-2 : tie.Need-enum-told-2
 enum-told-2 c = search needs
 
-replays-requires : tie.Need-replays-requires
-replays-requires c κs = search needs
+passes-header-requires : tie.Need-passes-header-requires
+passes-header-requires c κs = search needs
+
+enum-told-3 : tie.Need-enum-told-3
+enum-told-3 c = search needs
+
+passes-header-requires-2 : tie.Need-passes-header-requires-2
+passes-header-requires-2 c κs = search needs
 
 returns : tie.Need-returns
 returns c = rw (c .before .enum-told .given .1) (c .lists .ensures)
 
 returns-2 : tie.Need-returns-2
-returns-2 c = rw (c .before .enum-told2 .given .1) (c .replays .ensures)
+returns-2 c = rw (c .before .enum-told2 .given .1) (c .passes-header .ensures)
+
+returns-3 : tie.Need-returns-3
+returns-3 c = rw (c .before .enum-told3 .given .1) (c .passes-header2 .ensures)
 
 pub passes-spec : {M : Type 1} → statement M
 passes-spec =
-    tie.close (tie.spec enum-told lists-requires enum-told-2 replays-requires returns returns-2)
+    tie.close
+    (tie.spec
+    enum-told
+    lists-requires
+    enum-told-2
+    passes-header-requires
+    enum-told-3
+    passes-header-requires-2
+    returns
+    returns-2
+    returns-3)

@@ -1,0 +1,42 @@
+// The root's object header of a plain file: where it lies, and with which widths it is read, stands
+// in the file's own superblock (parser.rs, parse).
+use data_object_words::header_words;
+use records::Refusal;
+use row::clear_behind;
+use super_block::SuperBlockRead;
+use super_block::super_block;
+ghost use mathlib.Core.Path.{_≡_};
+ghost use lib.ListN.{length, replicate};
+ghost use Rattle.records.specs.Refusals.{refusalNumber};
+ghost use Rattle.data_object_root.specs.Root.{refusedWords, HandedRoot};
+
+// The words of a file that is refused: the refusal's number, and nothing else.
+fn put_refusal(words: &mut [u64], refusal: Refusal)
+    requires { ⌜ length (now words) ≡ 54 ⌝ }
+    ensures { λ _. ⌜ now (words .exit) ≡ refusedWords (refusalNumber refusal) ⌝ }
+{
+    clear_behind(words, 0);
+    words[0] = refusal.number();
+}
+
+// The root's object header: its messages in the table, and its words. A superblock that is refused
+// leaves the table all zero.
+pub fn root_words(file: &[u8], table: &mut [u64], words: &mut [u64; 54])
+    ensures { λ _. ⌜ HandedRoot (now (file .entry)) (length (now (table .entry))) (now (table .exit)) (now (words .exit)) ⌝ }
+{
+    match super_block(file) {
+        SuperBlockRead::Refused(refusal) => {
+            clear_behind(table, 0);
+            put_refusal(words, refusal);
+        }
+        SuperBlockRead::Read(block, _) => header_words(
+            file,
+            block.root_group_object_header_address,
+            block.size_of_offsets as u64,
+            block.size_of_lengths as u64,
+            block.end_of_file_address,
+            table,
+            words,
+        ),
+    }
+}

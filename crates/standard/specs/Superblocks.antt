@@ -1,0 +1,52 @@
+-- II.A, superblocks of versions 2 and 3. Assumes nothing: these are definitions.
+use Prim.Native.Nat.{ℕ, _+_, _*_}
+use mathlib.Core.Bool.{_||_}
+use lib.Dec.{eqb}
+use Rattle.format.specs.Format.{Format, done, number}
+use Rattle.standard.specs.Fields.{only}
+use Rattle.standard.specs.Headers.{characters}
+
+-- Layout: Superblock (Versions 2 and 3)
+pub record Superblock : Type 0 where
+  pub format-signature : ℕ
+  pub version-number : ℕ
+  pub size-of-offsets : ℕ
+  pub size-of-lengths : ℕ
+  pub file-consistency-flags : ℕ
+  pub base-address : ℕ
+  pub superblock-extension-address : ℕ
+  pub end-of-file-address : ℕ
+  pub root-group-object-header-address : ℕ
+  pub superblock-checksum : ℕ
+
+-- the eight values of the signature in their order, the first in the lowest byte
+abbrev pub signature : ℕ
+signature = characters 137 72 68 70 + 4294967296 * characters 13 10 26 10
+
+-- addresses have the size of offsets
+unfoldable pub superblock23 : Format Superblock
+superblock23 =
+    number 8 (λ format-signature.
+    only (eqb format-signature signature) (
+    number 1 (λ version-number.
+    only (eqb version-number 2 || eqb version-number 3) (
+    number 1 (λ size-of-offsets.
+    number 1 (λ size-of-lengths.
+    number 1 (λ file-consistency-flags.
+    number size-of-offsets (λ base-address.
+    number size-of-offsets (λ superblock-extension-address.
+    number size-of-offsets (λ end-of-file-address.
+    number size-of-offsets (λ root-group-object-header-address.
+    number 4 (λ superblock-checksum.
+    done {A = Superblock} (record {
+      format-signature = format-signature;
+      version-number = version-number;
+      size-of-offsets = size-of-offsets;
+      size-of-lengths = size-of-lengths;
+      file-consistency-flags = file-consistency-flags;
+      base-address = base-address;
+      superblock-extension-address = superblock-extension-address;
+      end-of-file-address = end-of-file-address;
+      root-group-object-header-address = root-group-object-header-address;
+      superblock-checksum = superblock-checksum;
+    })))))))))))))

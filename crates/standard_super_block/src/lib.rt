@@ -1,0 +1,1 @@
+// Specifications alone: the datatype message that is read, beside the standard's.

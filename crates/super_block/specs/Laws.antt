@@ -1,0 +1,81 @@
+-- The test of the version, and what a superblock that is read has passed: the file's size, and the tests of its widths. Assumes nothing.
+use Prim.Native.Nat.{ℕ, zero, suc, _+_, _≤_, _<_}
+use mathlib.Core.Path.{_≡_, refl, sym, ap, _∙_}
+use mathlib.Core.Bool.{Bool, true, false, _&&_, _||_}
+use mathlib.Core.List.{List}
+use native.Mathlib.Omega.{arith}
+use lib.ListN.{length}
+use lib.Dec.{eqb, leb}
+use borrow.Author.Tests.{leb-true, ne-eqb}
+use Rattle.format.specs.Bools.{and-right}
+use Rattle.format.specs.Bytes.{le}
+use Rattle.format.specs.Format.{Stands, Out, found, refused, pick, read}
+use Rattle.format.specs.Laws.{sound, never}
+use Rattle.format.specs.Standing.{stands-check}
+use Rattle.parser.specs.States.{fileLimit, widthAllowed, Widths, stateFor}
+use Rattle.parser.specs.StateLaws.{widths-of}
+use Rattle.super_block.specs.declared.SuperBlock.{SuperBlock}
+use Rattle.super_block.specs.declared.SuperBlockRead.{SuperBlockRead}
+use Rattle.super_block.specs.declared.SuperBlockRead.the-variants as blocks
+use Rattle.super_block.specs.SuperBlocks.{addresses, superBlock, superBlockOf}
+use Rattle.super_block.specs.Answers.{superBlockOut, WidthsRead}
+
+-- the versions that are known are those from 2 to 3
+pub version-before : {v : ℕ} → v < 2 → eqb v 2 || eqb v 3 ≡ false
+version-before {v} h = rw (ne-eqb v 2 (λ e. omega arith), ne-eqb v 3 (λ e. omega arith))
+
+pub version-behind : {v : ℕ} → 3 < v → eqb v 2 || eqb v 3 ≡ false
+version-behind {v} h = rw (ne-eqb v 2 (λ e. omega arith), ne-eqb v 3 (λ e. omega arith))
+
+pub version-known : (v : ℕ) → 2 ≤ v → v ≤ 3 → eqb v 2 || eqb v 3 ≡ true
+version-known zero l m = absurd (omega arith)
+version-known (suc zero) l m = absurd (omega arith)
+version-known (suc (suc zero)) l m = refl
+version-known (suc (suc (suc zero))) l m = refl
+version-known (suc (suc (suc (suc v)))) l m = absurd (omega arith)
+
+module _ (s : List ℕ) where
+  -- the file is small enough, and the superblock stands at its start
+  pub super-block-read : {b : SuperBlock} {q : ℕ} → superBlockOf s ≡ found b q → (length s ≤ fileLimit) × (read s superBlock 0 ≡ found b q)
+  unfolding superBlockOf
+  super-block-read {b} {q} e = go (leb (length s) fileLimit) refl e
+    where
+      go : (t : Bool) → leb (length s) fileLimit ≡ t → pick t (read s superBlock 0) (refused 2) ≡ found b q → (length s ≤ fileLimit) × (read s superBlock 0 ≡ found b q)
+      go true t d = (leb-true (length s) fileLimit t, d)
+      go false t d = never d
+
+  -- the widths are handed on as they were read
+  kept : (o l p q : ℕ) (b : SuperBlock) → Stands s (addresses o l) p q b → (o ≡ b .«size_of_offsets») × (l ≡ b .«size_of_lengths»)
+  unfolding addresses
+  kept o l p q b h =
+      let c = stands-check s (eqb (le s p o) 0) 27 _ (p + o) q b (h .1) in
+      let e = c .1 .1 .1 .1 .1 .1 in
+      (ap (λ (x : SuperBlock). x .«size_of_offsets») e, ap (λ (x : SuperBlock). x .«size_of_lengths») e)
+
+  -- and have passed their tests
+  stood-widths : (q : ℕ) (b : SuperBlock) → Stands s superBlock 0 q b → widthAllowed (b .«size_of_offsets») && widthAllowed (b .«size_of_lengths») ≡ true
+  unfolding superBlock
+  stood-widths q b h =
+      let version = le s 8 1 in
+      let o = le s 9 1 in
+      let l = le s 10 1 in
+      let c = stands-check s (eqb (le s 0 8) 0x0A1A0A0D46444889) 25 _ 8 q b (h .1) in
+      let d = stands-check s (eqb version 2 || eqb version 3) 26 _ 9 q b (c .1 .1) in
+      let e = stands-check s (widthAllowed o) 1 _ 10 q b (d .1 .1) in
+      let f = stands-check s (widthAllowed l) 1 _ 11 q b (e .1 .1) in
+      let k = kept o l 12 q b (f .1 .1) in
+      rw (← k .0, ← k .1, e .0, f .0)
+
+  -- so of an answer that is the superblock's
+  widths-read : (r : SuperBlockRead) → superBlockOut r ≡ superBlockOf s → WidthsRead r
+  widths-read (blocks.Read b q) e =
+      let h = sound s superBlock 0 q b (super-block-read (sym e) .1) in
+      widths-of (b .«size_of_offsets») (b .«size_of_lengths») (b .«end_of_file_address») (stood-widths q b h)
+  widths-read (blocks.Refused x) e = tt
+
+  pub with-widths : (r : SuperBlockRead) → superBlockOut r ≡ superBlockOf s → (superBlockOut r ≡ superBlockOf s) × WidthsRead r
+  with-widths r e = (e, widths-read r e)
+
+-- a width that has passed its test is at most 8
+pub allowed-most : (w : ℕ) {t : Bool} → t ≡ widthAllowed w → t ≡ true → w ≤ 8
+allowed-most w e f = leb-true w 8 (and-right (leb 2 w) (leb w 8) (sym e ∙ f))

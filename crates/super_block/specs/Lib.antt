@@ -1,0 +1,3 @@
+pub mod SuperBlocks
+pub mod Answers
+pub mod Laws
