@@ -1,21 +1,33 @@
 /*
  * Prints what an object header holds.
  *
- *   decode PATH OFFSET_WIDTH LENGTH_WIDTH END_OF_FILE POSITION
+ *   decode FILE
+ *   decode FILE POSITION
+ *   decode FILE POSITION OFFSET_WIDTH LENGTH_WIDTH END_OF_FILE
  *
- * The numbers are decimal. A line for the call, one for each row, one for each record; a hyphen
- * stands where a field is absent, and names and data are written as the bytes they are. A header
- * that is refused prints `refused,` and the refusal's number. The exit status is 0 for either, and 2
- * where nothing could be decoded or written.
+ * The first takes the root group's header and the second the header at a position, both by the
+ * file's own superblock; the third is for files whose superblock is not of version 2 or 3. The
+ * numbers are decimal. A line for the superblock, where it is read, one for the call, one for each
+ * row, one for each record; a hyphen stands where a field is absent, and names and data are written
+ * as the bytes they are. A superblock or a header that is refused prints `refused,` and the
+ * refusal's number. The exit status is 0 for either, and 2 where nothing could be decoded or
+ * written.
  */
 #include <stdio.h>
 #include <stdlib.h>
 
 #include "dowringaf.h"
 
-enum { ROWS = 4096 };
+enum { ROWS = 4096, LEAST_ROOM = 65536 };
+
+/* One byte more than is decoded, so that a larger file is refused without being read whole. */
+#define MOST_ROOM ((size_t)2147483649u)
+
+/* The words after the file's name, in their order. */
+enum { POSITION, OFFSET_WIDTH, LENGTH_WIDTH, END_OF_FILE, NUMBERS };
 
 static uint64_t table[ROWS * DOWRINGAF_ROW_WORDS];
+static const size_t table_words = sizeof table / sizeof table[0];
 static dowringaf_object object;
 
 struct bytes {
@@ -47,46 +59,59 @@ static int number_of(const char *text, uint64_t *number)
     return 1;
 }
 
-/* The whole of a file, in a block of its size. Yields 0 where it cannot be read. */
+/* Room for a file and one byte more, which stays free; where its size is not known, the least. */
+static size_t first_room(FILE *stream)
+{
+    long size = fseek(stream, 0, SEEK_END) == 0 ? ftell(stream) : 0;
+
+    rewind(stream);
+    if (size < LEAST_ROOM) {
+        return LEAST_ROOM;
+    }
+    return (unsigned long)size < MOST_ROOM ? (size_t)size + 1 : MOST_ROOM;
+}
+
+/* A stream up to its end, or as much as fills the most room. Yields 0 where it cannot be read. */
+static int read_stream(FILE *stream, struct bytes *file)
+{
+    size_t room = first_room(stream);
+
+    for (;;) {
+        uint8_t *more = realloc(file->at, room);
+
+        if (more == NULL) {
+            return 0;
+        }
+        file->at = more;
+        file->count += fread(file->at + file->count, 1, room - file->count, stream);
+        if (file->count < room || room == MOST_ROOM) {
+            return !ferror(stream);
+        }
+        room = room < MOST_ROOM / 2 ? room * 2 : MOST_ROOM;
+    }
+}
+
+/* A file, in a block of its size. Yields 0 where it cannot be read. */
 static int read_file(const char *path, struct bytes *file)
 {
     FILE *stream = fopen(path, "rb");
-    size_t room = 0;
-    size_t got;
+    int is_read;
 
     file->at = NULL;
     file->count = 0;
     if (stream == NULL) {
         return 0;
     }
-    do {
-        if (file->count == room) {
-            uint8_t *more;
-
-            room = room == 0 ? 65536 : room * 2;
-            more = realloc(file->at, room);
-            if (more == NULL) {
-                fclose(stream);
-                return 0;
-            }
-            file->at = more;
-        }
-        got = fread(file->at + file->count, 1, room - file->count, stream);
-        file->count += got;
-    } while (got != 0);
-    if (ferror(stream)) {
-        fclose(stream);
-        return 0;
-    }
+    is_read = read_stream(stream, file);
     fclose(stream);
-    if (file->count != 0) {
+    if (is_read && file->count != 0) {
         uint8_t *exact = realloc(file->at, file->count);
 
         if (exact != NULL) {
             file->at = exact;
         }
     }
-    return 1;
+    return is_read;
 }
 
 static void put_number(uint64_t number)
@@ -215,12 +240,31 @@ static void put_attribute_info(const dowringaf_attribute_info *info)
     putchar('\n');
 }
 
+static void put_refused(uint64_t number)
+{
+    fputs("refused", stdout);
+    put_number(number);
+    putchar('\n');
+}
+
+static void put_superblock(const dowringaf_superblock *block)
+{
+    fputs("superblock", stdout);
+    put_number(block->size_of_offsets);
+    put_number(block->size_of_lengths);
+    put_number(block->base_address);
+    put_number(block->superblock_extension_address);
+    put_number(block->end_of_file_address);
+    put_number(block->root_group_object_header_address);
+    putchar('\n');
+}
+
 static void put_object(const struct bytes *file)
 {
     uint64_t i;
 
     if (object.refused != 0) {
-        printf("refused,%llu\n", (unsigned long long)object.refused);
+        put_refused(object.refused);
         return;
     }
     fputs("read", stdout);
@@ -241,30 +285,71 @@ static void put_object(const struct bytes *file)
     putchar('\n');
 }
 
-int main(int count, char **words)
+/* The root's header, or with a number the one at that position. */
+static void decode_by_superblock(const struct bytes *file, const uint64_t *numbers, int count)
 {
-    uint64_t numbers[4];
-    struct bytes file;
+    dowringaf_superblock block = dowringaf_super_block(file->at, file->count);
+
+    if (block.refused != 0) {
+        put_refused(block.refused);
+        return;
+    }
+    put_superblock(&block);
+    if (count == 0) {
+        dowringaf_root_object(file->at, file->count, table, table_words, &object);
+    } else {
+        dowringaf_data_object(file->at, file->count, numbers[POSITION], block.size_of_offsets,
+                              block.size_of_lengths, block.end_of_file_address, table,
+                              table_words, &object);
+    }
+    put_object(file);
+}
+
+static void decode_by_hand(const struct bytes *file, const uint64_t *numbers)
+{
+    dowringaf_data_object(file->at, file->count, numbers[POSITION], numbers[OFFSET_WIDTH],
+                          numbers[LENGTH_WIDTH], numbers[END_OF_FILE], table, table_words,
+                          &object);
+    put_object(file);
+}
+
+/* The numbers among the words. Yields how many they are, or -1 where the words are not as above. */
+static int numbers_of(int count, char **words, uint64_t *numbers)
+{
     int i;
 
-    if (count != 6) {
-        fputs("decode PATH OFFSET_WIDTH LENGTH_WIDTH END_OF_FILE POSITION\n", stderr);
-        return 2;
+    if (count != 2 && count != 3 && count != NUMBERS + 2) {
+        fputs("decode FILE [POSITION [OFFSET_WIDTH LENGTH_WIDTH END_OF_FILE]]\n", stderr);
+        return -1;
     }
-    for (i = 0; i < 4; i++) {
+    for (i = 0; i < count - 2; i++) {
         if (!number_of(words[i + 2], &numbers[i])) {
             fprintf(stderr, "%s: not a number\n", words[i + 2]);
-            return 2;
+            return -1;
         }
+    }
+    return count - 2;
+}
+
+int main(int count, char **words)
+{
+    uint64_t numbers[NUMBERS];
+    struct bytes file;
+    int given = numbers_of(count, words, numbers);
+
+    if (given < 0) {
+        return 2;
     }
     if (!read_file(words[1], &file)) {
         fprintf(stderr, "%s: cannot be read\n", words[1]);
         free(file.at);
         return 2;
     }
-    dowringaf_data_object(file.at, file.count, numbers[3], numbers[0], numbers[1], numbers[2],
-                          table, sizeof table / sizeof table[0], &object);
-    put_object(&file);
+    if (given == NUMBERS) {
+        decode_by_hand(&file, numbers);
+    } else {
+        decode_by_superblock(&file, numbers, given);
+    }
     free(file.at);
     if (fflush(stdout) != 0 || ferror(stdout)) {
         fputs("standard output: cannot be written\n", stderr);

@@ -1,5 +1,5 @@
 /*
- * Reading HDF5 object headers from C, through libfirmware.a (x86-64).
+ * Reading superblocks and object headers of HDF5 files from C, through libfirmware.a (x86-64).
  *
  * The functions are proved for every input, in crates/firmware. Of them all:
  *
@@ -17,7 +17,7 @@
  *     the call;
  *   - the stack has room. The proofs say nothing of it: DOWRINGAF_DECODING_STACK and
  *     DOWRINGAF_LISTING_STACK are bounds on what was measured at the deepest (firmware/stack.c);
- *     the other two functions use less than the first.
+ *     the other three functions use less than the first.
  *
  * Time is not proved either. For one entry of a header the file is read forwards, up to its end at
  * most, so that a call takes at most in proportion to the entries times the bytes of the file. There
@@ -38,14 +38,17 @@
 extern "C" {
 #endif
 
-/* Bytes of stack that dowringaf_data_object and dowringaf_list stay below. */
+/*
+ * Bytes of stack that dowringaf_data_object and dowringaf_root_object stay below, and those that
+ * dowringaf_list does.
+ */
 #define DOWRINGAF_DECODING_STACK 24576
 #define DOWRINGAF_LISTING_STACK 65536
 
-/* Why a header or a lookup is refused; 0 where it is not. */
+/* Why a superblock, a header or a lookup is refused; 0 where it is not. */
 enum dowringaf_refusal {
     DOWRINGAF_WIDTH = 1,                   /* a width that is not 2 to 8 */
-    DOWRINGAF_FILE_SIZE = 2,               /* a file above 2,147,483,648 bytes; for the listing, an input above 65,536 */
+    DOWRINGAF_FILE_SIZE = 2,               /* a file above 2,147,483,648 bytes; for the listing, above 65,536 */
     DOWRINGAF_SHORT = 3,                   /* a needed byte lies past the file */
     DOWRINGAF_SIGNATURE = 4,               /* not OHDR */
     DOWRINGAF_VERSION = 5,                 /* the header's version */
@@ -67,7 +70,10 @@ enum dowringaf_refusal {
     DOWRINGAF_BLOCK_LEVEL = 21,            /* a 26th level of blocks */
     DOWRINGAF_TYPE_LEVEL = 22,             /* a 33rd level of types */
     DOWRINGAF_ENTRIES = 23,                /* a 4,097th entry */
-    DOWRINGAF_TABLE = 24                   /* a table with too few rows */
+    DOWRINGAF_TABLE = 24,                  /* a table with too few rows */
+    DOWRINGAF_SUPERBLOCK_SIGNATURE = 25,   /* no HDF5 format signature at byte 0 */
+    DOWRINGAF_SUPERBLOCK_VERSION = 26,     /* a superblock of a version other than 2 and 3 */
+    DOWRINGAF_BASE_ADDRESS = 27            /* a base address other than 0 */
 };
 
 /*
@@ -190,6 +196,20 @@ typedef struct dowringaf_found {
 } dowringaf_found;
 
 /*
+ * A superblock, each number as it stands in the file. Where it is refused, every word but the first
+ * is 0. Sizes are in bytes. An address that the file leaves undefined has all ones in its bytes.
+ */
+typedef struct dowringaf_superblock {
+    uint64_t refused; /* 0, or an enum dowringaf_refusal */
+    uint64_t size_of_offsets;
+    uint64_t size_of_lengths;
+    uint64_t base_address; /* 0, since any other is refused */
+    uint64_t superblock_extension_address;
+    uint64_t end_of_file_address;
+    uint64_t root_group_object_header_address;
+} dowringaf_superblock;
+
+/*
  * Decodes the object header at a position of a file into a table of table_words words: a row of ten
  * words for each message, in the header's order, then zeros. A header that is refused leaves the
  * whole table zero. Writes every word of the object. What stood in the table and the object before
@@ -216,17 +236,33 @@ dowringaf_found dowringaf_lookup(const uint8_t *file, size_t file_bytes, const u
 dowringaf_part dowringaf_layout_data(const uint8_t *file, size_t file_bytes, size_t position,
                                      size_t length);
 
+/*
+ * Reads the superblock at byte 0 of a file: signature, version, sizes of offsets and of lengths,
+ * flags, the four addresses in the struct's order, checksum. After the file's size, the first of
+ * them counts that leaves the file, which is DOWRINGAF_SHORT, or that is not as it must be, which
+ * has its own number. Flags and checksum may be any. No address but the base is tested, and none is
+ * compared with file_bytes.
+ */
+dowringaf_superblock dowringaf_super_block(const uint8_t *file, size_t file_bytes);
+
+/*
+ * Decodes the root group's object header: exactly as dowringaf_data_object does with the position,
+ * the widths and the end-of-file address that dowringaf_super_block gives. Where the superblock is
+ * refused, the object has its number, every other word is 0, and so is the whole table.
+ */
+void dowringaf_root_object(const uint8_t *file, size_t file_bytes, uint64_t *table,
+                           size_t table_words, dowringaf_object *object);
+
 /* The bytes that dowringaf_list is lent. */
 #define DOWRINGAF_LISTING 98304
 
 /*
- * Writes the listing of an input at the start of out, and yields its length. The input is the
- * width of offsets and of lengths (a byte each), the end-of-file address and the header's position
- * (8 bytes each, lowest byte first), and then the file, at most 65,536 bytes in all. The listing
- * has a line for each row, at most 512 rows, and a last line, or `refused,` and a number. The bytes
- * of out after it are left as they were.
+ * Writes the listing of a file of at most 65,536 bytes at the start of out, and yields its length.
+ * What is listed is the root group's object header, as dowringaf_root_object decodes it with 512
+ * rows lent. The listing has a line for each row and a last line, or `refused,` and a number. The
+ * bytes of out after it are left as they were.
  */
-size_t dowringaf_list(const uint8_t *input, size_t input_bytes, uint8_t out[DOWRINGAF_LISTING]);
+size_t dowringaf_list(const uint8_t *file, size_t file_bytes, uint8_t out[DOWRINGAF_LISTING]);
 
 #ifdef __cplusplus
 }

@@ -1,8 +1,9 @@
 /*
- * How much stack the calls use at the deepest: 25 levels of blocks, and in the last of them a type of
- * 32 levels. The proofs say nothing of the stack. Each call runs in a thread whose stack is filled
- * with a pattern before, so that it shows how far it was written; what a thread that calls nothing
- * writes is taken off. Fails where a call uses more than dowringaf.h says.
+ * How much stack the calls use at the deepest: in the header of a file's root 25 levels of blocks,
+ * and in the last of them a type of 32 levels. The proofs say nothing of the stack. Each call runs
+ * in a thread whose stack is filled with a pattern before, so that it shows how far it was written;
+ * what a thread that calls nothing writes is taken off. Fails where a call uses more than
+ * dowringaf.h says.
  */
 #define _POSIX_C_SOURCE 200809L
 
@@ -13,14 +14,15 @@
 
 #include "dowringaf.h"
 
-enum { STACK = 1 << 18, PATTERN = 0xA5, BLOCKS = 25, TYPES = 32, LEAD = 18, ROOM = 4096 };
+enum { STACK = 1 << 18, PATTERN = 0xA5, BLOCKS = 25, TYPES = 32, SUPERBLOCK = 48, ROOM = 4096 };
 
-static uint8_t bytes[LEAD + ROOM];
-static uint8_t *const file = bytes + LEAD;
+static uint8_t file[ROOM];
 static size_t count;
 static uint64_t table[16 * DOWRINGAF_ROW_WORDS];
+static const size_t table_words = sizeof table / sizeof table[0];
 static uint8_t out[DOWRINGAF_LISTING];
 static dowringaf_object object;
+static dowringaf_object root_object;
 static size_t listed;
 
 static void put(uint64_t number, int width)
@@ -33,8 +35,8 @@ static void put(uint64_t number, int width)
 
 static void put_signature(const char *signature)
 {
-    memcpy(file + count, signature, 4);
-    count += 4;
+    memcpy(file + count, signature, strlen(signature));
+    count += strlen(signature);
 }
 
 /* An entry of type 16 whose block follows, after as many bytes as are given. */
@@ -67,11 +69,30 @@ static void put_types(void)
     put(32, 2);
 }
 
+/* The superblock, in front of what is written. */
+static void write_superblock(void)
+{
+    size_t bytes = count;
+
+    count = 0;
+    put_signature("\211HDF\r\n\032\n");
+    put(2, 1);
+    put(8, 1);
+    put(8, 1);
+    put(0, 1);
+    put(0, 8);
+    put(UINT64_MAX, 8);
+    put(bytes, 8);
+    put(SUPERBLOCK, 8);
+    put(0, 4);
+    count = bytes;
+}
+
 static void write_deepest(void)
 {
     int i;
 
-    count = 0;
+    count = SUPERBLOCK;
     put_signature("OHDR");
     put(2, 1);
     put(0, 1);
@@ -83,10 +104,7 @@ static void write_deepest(void)
     }
     put_types();
     put(0, 4);
-    bytes[0] = 8;
-    bytes[1] = 8;
-    bytes[2] = (uint8_t)(count % 256);
-    bytes[3] = (uint8_t)(count / 256);
+    write_superblock();
 }
 
 static void *nothing(void *unused)
@@ -96,14 +114,19 @@ static void *nothing(void *unused)
 
 static void *decode(void *unused)
 {
-    dowringaf_data_object(file, count, 0, 8, 8, count, table, sizeof table / sizeof table[0],
-                          &object);
+    dowringaf_data_object(file, count, SUPERBLOCK, 8, 8, count, table, table_words, &object);
+    return unused;
+}
+
+static void *decode_root(void *unused)
+{
+    dowringaf_root_object(file, count, table, table_words, &root_object);
     return unused;
 }
 
 static void *list(void *unused)
 {
-    listed = dowringaf_list(bytes, LEAD + count, out);
+    listed = dowringaf_list(file, count, out);
     return unused;
 }
 
@@ -132,23 +155,35 @@ static size_t written(void *(*run)(void *))
     return STACK - i;
 }
 
+static int is_deepest(const dowringaf_object *read)
+{
+    return read->refused == 0 && read->entries == BLOCKS + 1 && read->rows == 1;
+}
+
 int main(void)
 {
     size_t none = written(nothing);
     size_t decoding;
+    size_t root;
     size_t listing;
 
     write_deepest();
     decoding = written(decode) - none;
+    root = written(decode_root) - none;
     listing = written(list) - none;
-    if (object.refused != 0 || object.entries != BLOCKS + 1 || object.rows != 1) {
-        printf("the deepest header is not read: %llu\n", (unsigned long long)object.refused);
+    if (!is_deepest(&object) || !is_deepest(&root_object)) {
+        printf("the deepest header is not read: %llu, %llu\n", (unsigned long long)object.refused,
+               (unsigned long long)root_object.refused);
         return 1;
     }
     if (listed == 0 || memcmp(out, "0,3,", 4) != 0) {
         puts("the deepest header is not listed");
         return 1;
     }
-    printf("stack: decoding %lu, listing %lu\n", (unsigned long)decoding, (unsigned long)listing);
-    return decoding <= DOWRINGAF_DECODING_STACK && listing <= DOWRINGAF_LISTING_STACK ? 0 : 1;
+    printf("stack: decoding %lu, root %lu, listing %lu\n", (unsigned long)decoding,
+           (unsigned long)root, (unsigned long)listing);
+    if (decoding > DOWRINGAF_DECODING_STACK || root > DOWRINGAF_DECODING_STACK) {
+        return 1;
+    }
+    return listing <= DOWRINGAF_LISTING_STACK ? 0 : 1;
 }

@@ -25,6 +25,7 @@ HAS_WORDS(dowringaf_attribute_info, 5);
 HAS_WORDS(dowringaf_part, 2);
 HAS_WORDS(dowringaf_object, 54);
 HAS_WORDS(dowringaf_found, 3);
+HAS_WORDS(dowringaf_superblock, 7);
 
 static unsigned long compared = 0;
 static unsigned long failed = 0;
@@ -116,7 +117,27 @@ static size_t entry(struct writer *w, int type, int size, int flags)
     return w->count;
 }
 
-enum { OFFSET = 8, LENGTH = 4, HEADER_FROM = 3, MESSAGES = 7 };
+/* The bytes of a superblock's signature, and where the other fields that are tested begin. */
+enum { SIGNATURE_BYTES = 8, VERSION_AT = 8, OFFSET_AT = 9, LENGTH_AT = 10, BASE_AT = 12 };
+
+/* A superblock of version 3, with any flags and checksum. */
+static void put_superblock(struct writer *w, int offset_width, int length_width, uint64_t extension,
+                           uint64_t end, uint64_t root)
+{
+    put_text(w, "\211HDF\r\n\032\n");
+    put(w, 3, 1);
+    put(w, (uint64_t)offset_width, 1);
+    put(w, (uint64_t)length_width, 1);
+    put(w, 0x55, 1);
+    put(w, 0, offset_width);
+    put(w, extension, offset_width);
+    put(w, end, offset_width);
+    put(w, root, offset_width);
+    put(w, 0xA1A2A3A4u, 4);
+}
+
+/* The full header lies some bytes behind the superblock. */
+enum { OFFSET = 8, LENGTH = 4, SUPERBLOCK = 48, HEADER_FROM = SUPERBLOCK + 3, MESSAGES = 7 };
 
 /* Where the pieces of the full header lie. */
 struct places {
@@ -193,17 +214,10 @@ static void write_attribute(struct writer *w, struct places *p)
     put_text(w, "metre");
 }
 
-/* A header in which every field has a value of its own, as far as the format leaves it free. */
-static void write_full(struct writer *w, struct places *p)
+static void write_dataspace(struct writer *w, struct places *p)
 {
     int i;
 
-    w->count = 0;
-    put_text(w, "xyz");
-    put_text(w, "OHDR");
-    put(w, 2, 1);
-    put(w, 1, 1);
-    put(w, 0, 2);
     p->body[0] = entry(w, 1, 36, 1);
     put(w, 2, 1);
     put(w, 4, 1);
@@ -215,6 +229,31 @@ static void write_full(struct writer *w, struct places *p)
     for (i = 0; i < 4; i++) {
         put(w, (uint64_t)(201 + i), LENGTH);
     }
+}
+
+/* The superblock in front of the full header. */
+static void write_front(struct writer *w, uint64_t end)
+{
+    size_t count = w->count;
+
+    w->count = 0;
+    put_superblock(w, OFFSET, LENGTH, UINT64_MAX, end, HEADER_FROM);
+    w->count = count;
+}
+
+/*
+ * A file whose root has a header in which every field has a value of its own, as far as the format
+ * leaves it free.
+ */
+static void write_full(struct writer *w, struct places *p)
+{
+    w->count = SUPERBLOCK;
+    put_text(w, "xyz");
+    put_text(w, "OHDR");
+    put(w, 2, 1);
+    put(w, 1, 1);
+    put(w, 0, 2);
+    write_dataspace(w, p);
     write_datatype(w, p);
     write_infos(w, p);
     write_attribute(w, p);
@@ -228,6 +267,7 @@ static void write_full(struct writer *w, struct places *p)
     w->bytes[HEADER_FROM + 6] = (uint8_t)(w->count - HEADER_FROM - 8);
     put(w, 0, 4);
     put_text(w, "the bytes");
+    write_front(w, w->count);
 }
 
 static void compare_spaces(const dowringaf_dataspace *s)
@@ -602,36 +642,261 @@ static void listing_is(const uint8_t *input, size_t n, const char *expected)
     length = dowringaf_list(given, n, out);
     IS(length, strlen(expected));
     IS((uint64_t)(length == strlen(expected) && memcmp(out, expected, length) == 0), 1);
+    IS(out[length], 1);
     free(given);
     free(out);
 }
 
+/* A root's header of an unknown message and a group info. */
+static void write_small(struct writer *w)
+{
+    w->count = 0;
+    put_superblock(w, 8, 8, UINT64_MAX, 71, SUPERBLOCK);
+    put_text(w, "OHDR");
+    put(w, 2, 1);
+    put(w, 0, 1);
+    put(w, 12, 1);
+    entry(w, 0, 2, 0);
+    put(w, 0xBBAA, 2);
+    entry(w, 10, 2, 0);
+    put(w, 0, 2);
+    put(w, 0, 4);
+}
+
+static const char small_listing[] = "0,0,0,2,59,-,-,-,-\n1,10,0,2,65,-,-,-,-\nend,71,2\n";
+
+/* Files that are listed, and files that are refused. */
 static void test_listing(void)
 {
     struct writer w;
+    struct places p;
 
-    w.count = 0;
-    put(&w, 8, 1);
-    put(&w, 8, 1);
-    put(&w, 23, 8);
-    put(&w, 0, 8);
-    put_text(&w, "OHDR");
-    put(&w, 2, 1);
-    put(&w, 0, 1);
-    put(&w, 12, 1);
-    entry(&w, 0, 2, 0);
-    put(&w, 0xBBAA, 2);
-    entry(&w, 10, 2, 0);
-    put(&w, 0, 2);
-    put(&w, 0, 4);
-    listing_is(w.bytes, w.count, "0,0,0,2,11,-,-,-,-\n1,10,0,2,17,-,-,-,-\nend,23,2\n");
+    write_full(&w, &p);
+    listing_is(w.bytes, w.count,
+               "0,1,1,36,63,-,-,-,-\n1,3,4,28,103,-,-,-,-\n2,2,0,34,135,-,-,-,-\n"
+               "3,10,0,10,173,-,-,-,-\n4,21,0,28,187,-,-,-,-\n5,12,0,31,219,228,4,245,5\n"
+               "6,8,0,14,254,-,-,272,9\nend,272,7\n");
+    write_small(&w);
+    listing_is(w.bytes, w.count, small_listing);
     listing_is(w.bytes, w.count - 1, "refused,3\n");
-    listing_is(w.bytes, 17, "refused,3\n");
-    listing_is(NULL, 0, "refused,3\n");
+    listing_is(w.bytes + SUPERBLOCK, w.count - SUPERBLOCK, "refused,25\n");
+    w.bytes[SUPERBLOCK] = 'o';
+    listing_is(w.bytes, w.count, "refused,4\n");
 }
 
-/* Writes the full header to a file, for another program to read. */
-static int write_header(const char *path)
+/* The largest input that is listed; one byte more is refused before anything is read. */
+static void test_large_listing(void)
+{
+    enum { MOST = 65536 };
+    struct writer w;
+    uint8_t *input = block(MOST + 1, 1);
+
+    write_small(&w);
+    memset(input, 0, MOST + 1);
+    memcpy(input, w.bytes, w.count);
+    listing_is(input, MOST, small_listing);
+    listing_is(input, MOST + 1, "refused,2\n");
+    input[0] = 0;
+    listing_is(input, MOST, "refused,25\n");
+    listing_is(input, MOST + 1, "refused,2\n");
+    free(input);
+}
+
+static void superblock_is(const struct writer *w, const dowringaf_superblock *expected)
+{
+    uint8_t *file = copy(w->bytes, w->count);
+    dowringaf_superblock block = dowringaf_super_block(file, w->count);
+
+    IS(block.refused, expected->refused);
+    IS(block.size_of_offsets, expected->size_of_offsets);
+    IS(block.size_of_lengths, expected->size_of_lengths);
+    IS(block.base_address, expected->base_address);
+    IS(block.superblock_extension_address, expected->superblock_extension_address);
+    IS(block.end_of_file_address, expected->end_of_file_address);
+    IS(block.root_group_object_header_address, expected->root_group_object_header_address);
+    free(file);
+}
+
+/* Refused with a number as a superblock, as a root and as a listing; all else is zero. */
+static void refuse_superblock(const uint8_t *bytes, size_t n, uint64_t number)
+{
+    static const dowringaf_superblock zeros = {0, 0, 0, 0, 0, 0, 0};
+    uint8_t *file = copy(bytes, n);
+    uint64_t *table = ones(75);
+    dowringaf_object *o = object_of_ones();
+    dowringaf_superblock block = dowringaf_super_block(file, n);
+    char listing[32];
+
+    IS(block.refused, number);
+    block.refused = 0;
+    IS((uint64_t)memcmp(&block, &zeros, sizeof block), 0);
+    dowringaf_root_object(file, n, table, 75, o);
+    IS(o->refused, number);
+    compare_zeros(o, table, 75);
+    sprintf(listing, "refused,%llu\n", (unsigned long long)number);
+    listing_is(file, n, listing);
+    free(file);
+    free(table);
+    free(o);
+}
+
+/* A superblock in which every field has a value of its own. */
+static void write_own(struct writer *w)
+{
+    w->count = 0;
+    put_superblock(w, 7, 4, 0x21222324252627u, 0x31323334353637u, 0x41424344454647u);
+}
+
+/* Every word, in both versions and with each width, of files that end with the superblock. */
+static void test_superblock(void)
+{
+    static const dowringaf_superblock own = {
+        0, 7, 4, 0, 0x21222324252627u, 0x31323334353637u, 0x41424344454647u};
+    struct writer w;
+    int width;
+
+    write_own(&w);
+    superblock_is(&w, &own);
+    w.bytes[VERSION_AT] = 2;
+    superblock_is(&w, &own);
+    for (width = 2; width <= 8; width++) {
+        dowringaf_superblock wide = own;
+        uint64_t most = UINT64_MAX >> (64 - 8 * width);
+
+        w.count = 0;
+        put_superblock(&w, width, 10 - width, UINT64_MAX, UINT64_MAX, UINT64_MAX);
+        wide.size_of_offsets = (uint64_t)width;
+        wide.size_of_lengths = (uint64_t)(10 - width);
+        wide.superblock_extension_address = most;
+        wide.end_of_file_address = most;
+        wide.root_group_object_header_address = most;
+        superblock_is(&w, &wide);
+    }
+}
+
+/* Each value that a field must not have, and every cut. */
+static void test_refused_superblocks(void)
+{
+    static const uint8_t versions[4] = {0, 1, 4, 255};
+    static const uint8_t widths[4] = {0, 1, 9, 255};
+    struct writer w;
+    size_t i;
+
+    write_own(&w);
+    for (i = 0; i < w.count; i++) {
+        refuse_superblock(w.bytes, i, DOWRINGAF_SHORT);
+    }
+    for (i = 0; i < SIGNATURE_BYTES; i++) {
+        w.bytes[i] ^= 0x20;
+        refuse_superblock(w.bytes, w.count, DOWRINGAF_SUPERBLOCK_SIGNATURE);
+        w.bytes[i] ^= 0x20;
+    }
+    for (i = 0; i < 4; i++) {
+        write_own(&w);
+        w.bytes[VERSION_AT] = versions[i];
+        refuse_superblock(w.bytes, w.count, DOWRINGAF_SUPERBLOCK_VERSION);
+        write_own(&w);
+        w.bytes[OFFSET_AT] = widths[i];
+        refuse_superblock(w.bytes, w.count, DOWRINGAF_WIDTH);
+        write_own(&w);
+        w.bytes[LENGTH_AT] = widths[i];
+        refuse_superblock(w.bytes, w.count, DOWRINGAF_WIDTH);
+    }
+    for (i = BASE_AT; i < BASE_AT + 7; i++) {
+        write_own(&w);
+        w.bytes[i] = 0x80;
+        refuse_superblock(w.bytes, w.count, DOWRINGAF_BASE_ADDRESS);
+    }
+}
+
+/*
+ * Fields are tested as they are read: from the last one on, each is made wrong beside those after
+ * it, and counts as soon as its last byte is there.
+ */
+static void test_superblock_order(void)
+{
+    static const struct {
+        size_t at;
+        size_t end;
+        uint8_t wrong;
+        uint64_t number;
+    } fields[5] = {
+        {BASE_AT, BASE_AT + 7, 1, DOWRINGAF_BASE_ADDRESS},
+        {LENGTH_AT, LENGTH_AT + 1, 9, DOWRINGAF_WIDTH},
+        {OFFSET_AT, OFFSET_AT + 1, 1, DOWRINGAF_WIDTH},
+        {VERSION_AT, VERSION_AT + 1, 4, DOWRINGAF_SUPERBLOCK_VERSION},
+        {0, SIGNATURE_BYTES, 0, DOWRINGAF_SUPERBLOCK_SIGNATURE},
+    };
+    struct writer w;
+    size_t i;
+
+    write_own(&w);
+    for (i = 0; i < 5; i++) {
+        w.bytes[fields[i].at] = fields[i].wrong;
+        refuse_superblock(w.bytes, w.count, fields[i].number);
+        refuse_superblock(w.bytes, fields[i].end, fields[i].number);
+        refuse_superblock(w.bytes, fields[i].end - 1, DOWRINGAF_SHORT);
+    }
+}
+
+/* The root's header, and the one at its place by hand, word for word. */
+static void root_is_by_hand(const struct writer *w, size_t n, uint64_t end, size_t words,
+                            uint64_t rows)
+{
+    uint8_t *file = copy(w->bytes, n);
+    uint64_t *root_table = ones(words);
+    uint64_t *table = ones(words);
+    dowringaf_object *root = object_of_ones();
+    dowringaf_object *o = object_of_ones();
+    size_t i;
+
+    dowringaf_root_object(file, n, root_table, words, root);
+    dowringaf_data_object(file, n, HEADER_FROM, OFFSET, LENGTH, end, table, words, o);
+    IS(root->rows, rows);
+    for (i = 0; i < sizeof *o / sizeof(uint64_t); i++) {
+        IS(((uint64_t *)root)[i], ((uint64_t *)o)[i]);
+    }
+    for (i = 0; i < words; i++) {
+        IS(root_table[i], table[i]);
+    }
+    free(file);
+    free(root_table);
+    free(table);
+    free(root);
+    free(o);
+}
+
+/* The full header as a root: with ends around its data, cut, and with too small a table. */
+static void test_root(void)
+{
+    struct writer w;
+    struct places p;
+    uint64_t ends[4];
+    dowringaf_object *o = object_of_ones();
+    size_t i;
+
+    write_full(&w, &p);
+    ends[0] = 0;
+    ends[1] = p.data;
+    ends[2] = p.data + 1;
+    ends[3] = UINT64_MAX;
+    for (i = 0; i < 4; i++) {
+        write_front(&w, ends[i]);
+        root_is_by_hand(&w, w.count, ends[i], 75, MESSAGES);
+    }
+    for (i = SUPERBLOCK; i < w.count; i++) {
+        root_is_by_hand(&w, i, UINT64_MAX, 75, 0);
+    }
+    root_is_by_hand(&w, w.count, UINT64_MAX, 69, 0);
+    root_is_by_hand(&w, w.count, UINT64_MAX, 0, 0);
+    dowringaf_root_object(NULL, 0, NULL, 0, o);
+    IS(o->refused, DOWRINGAF_SHORT);
+    compare_zeros(o, NULL, 0);
+    free(o);
+}
+
+/* Writes the file of the full header, for another program to read. */
+static int write_file(const char *path)
 {
     struct writer w;
     struct places p;
@@ -646,10 +911,10 @@ static int write_header(const char *path)
     return fclose(stream) == 0 && written;
 }
 
-/* With a path, also writes the full header there. */
+/* With a path, also writes the file of the full header there. */
 int main(int count, char **words)
 {
-    if (count == 2 && !write_header(words[1])) {
+    if (count == 2 && !write_file(words[1])) {
         fprintf(stderr, "%s: cannot be written\n", words[1]);
         return 2;
     }
@@ -661,6 +926,11 @@ int main(int count, char **words)
     test_block();
     test_parts();
     test_listing();
+    test_large_listing();
+    test_superblock();
+    test_refused_superblocks();
+    test_superblock_order();
+    test_root();
     printf("%lu compared, %lu failed\n", compared, failed);
     return failed == 0 ? 0 : 1;
 }
