@@ -1,6 +1,47 @@
-//! An accepted header in one form for both sides, and the report: the text that is compared.
+//! An accepted header, and a superblock, in one form for both sides, and the report: the text that
+//! is compared.
 
 use std::io::Write;
+
+use crate::input::Input;
+
+/// What a superblock hands out.
+#[derive(Clone, Debug, Default, PartialEq, Eq)]
+pub struct SuperBlock {
+    pub size_of_offsets: u64,
+    pub size_of_lengths: u64,
+    pub base_address: u64,
+    /// Absent in versions 0 and 1.
+    pub superblock_extension_address: Option<u64>,
+    pub end_of_file_address: u64,
+    pub root_group_object_header_address: u64,
+}
+
+impl SuperBlock {
+    pub fn report(&self) -> String {
+        let extension = self.superblock_extension_address;
+        format!(
+            "superblock,{},{},{},{},{},{}\n",
+            self.size_of_offsets,
+            self.size_of_lengths,
+            self.base_address,
+            extension.map_or("-".into(), |address| address.to_string()),
+            self.end_of_file_address,
+            self.root_group_object_header_address
+        )
+    }
+
+    /// What a call by hand is given in place of the superblock.
+    pub fn input(&self, file: &[u8]) -> Input {
+        Input {
+            offset_width: self.size_of_offsets as u8,
+            length_width: self.size_of_lengths as u8,
+            end_of_file: self.end_of_file_address,
+            position: self.root_group_object_header_address,
+            file: file.to_vec(),
+        }
+    }
+}
 
 /// One message. Texts are raw bytes, without trailing zeros.
 #[derive(Clone, Debug, PartialEq, Eq)]
@@ -184,7 +225,7 @@ impl Row {
 }
 
 /// The words of a record.
-fn words<T>(record: &T) -> &[u64] {
+pub(crate) fn words<T>(record: &T) -> &[u64] {
     let count = size_of::<T>() / size_of::<u64>();
     // A record has the layout of C, and nothing but 64-bit words.
     unsafe { std::slice::from_raw_parts(std::ptr::from_ref(record).cast(), count) }

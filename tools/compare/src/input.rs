@@ -35,9 +35,8 @@ impl Input {
         })
     }
 
-    /// The lead bytes and the file as hexadecimal digits, the way the listing takes them.
+    /// The lead bytes and the file as hexadecimal digits.
     pub fn hex(&self) -> String {
-        let digits = |bytes: &[u8]| bytes.iter().map(|b| format!("{b:02x}")).collect::<String>();
         let bytes = self.to_bytes();
         let (lead, file) = bytes.split_at(LEAD);
         format!(
@@ -48,6 +47,11 @@ impl Input {
             digits(file)
         )
     }
+}
+
+/// Bytes as hexadecimal digits.
+pub fn digits(bytes: &[u8]) -> String {
+    bytes.iter().map(|byte| format!("{byte:02x}")).collect()
 }
 
 /// A number of `width` bytes, the lowest first; higher bytes are dropped.

@@ -5,6 +5,7 @@ pub mod answer;
 pub mod generate;
 mod hdf;
 pub mod input;
+pub mod plain;
 pub mod port;
 pub mod random;
 pub mod real;

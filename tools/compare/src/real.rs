@@ -1,21 +1,27 @@
-//! Headers of real files: each `OHDR` mark, with the widths of the file's superblock.
+//! Real files, as they are, and their headers: each `OHDR` mark, with the widths of the file's
+//! superblock.
 
 use std::io;
 use std::path::{Path, PathBuf};
 
 use crate::input::{Input, get};
+use crate::plain::SIGNATURE;
 
-const SIGNATURE: &[u8] = b"\x89HDF\r\n\x1a\n";
-
-/// The headers of all files below some paths, in the order of their names.
-pub fn headers(paths: &[PathBuf]) -> io::Result<Vec<Input>> {
-    let mut inputs = Vec::new();
+/// All files below some paths, in the order of their names.
+pub fn plain(paths: &[PathBuf]) -> io::Result<Vec<Vec<u8>>> {
+    let mut plain = Vec::new();
     for path in paths {
         for file in files(path)? {
-            inputs.extend(headers_of(&std::fs::read(file)?));
+            plain.push(std::fs::read(file)?);
         }
     }
-    Ok(inputs)
+    Ok(plain)
+}
+
+/// The headers of all files below some paths.
+pub fn headers(paths: &[PathBuf]) -> io::Result<Vec<Input>> {
+    let files = plain(paths)?;
+    Ok(files.iter().flat_map(|file| headers_of(file)).collect())
 }
 
 fn files(path: &Path) -> io::Result<Vec<PathBuf>> {

@@ -16,8 +16,8 @@ use winnow::{ModalResult, Parser};
 use crate::answer::{self, Dimensions, Format, Header, Records, Row};
 use crate::hdf::data_object::{self, DataFormat, DataObject, DataObjectFlags};
 use crate::hdf::ohdr_message::{HeaderMessage, HeaderMessageKind, collect_all_messages};
-use crate::hdf::parser::{Input as Stream, State};
-use crate::hdf::super_block::SuperBlock;
+use crate::hdf::parser::{Input as Stream, State, parse};
+use crate::hdf::super_block::{SuperBlock, super_block};
 use crate::input::{Input, get};
 
 /// Entries that a comparison follows; at the next one the Rust is stopped.
@@ -77,6 +77,27 @@ pub fn rust_data_object(input: &Input) -> Option<(usize, usize)> {
         .parse_next(&mut stream)
         .ok()?;
     Some((stream.current_token_start(), object.parsed_attributes.len()))
+}
+
+/// The Rust's superblock of a plain file, or nothing where it refuses. It takes one field after the
+/// other, and has nothing that panics. With its values `rust_answer` reads the root header as
+/// `parse` does, which also compares the end-of-file address with the file's length.
+pub fn rust_super_block(file: &[u8]) -> Option<answer::SuperBlock> {
+    let mut rest = file;
+    let block = super_block(&mut rest).ok()?;
+    Some(answer::SuperBlock {
+        size_of_offsets: block.size_of_offsets.into(),
+        size_of_lengths: block.size_of_lengths.into(),
+        base_address: block.base_address,
+        superblock_extension_address: block.superblock_extension_address,
+        end_of_file_address: block.end_of_file_address,
+        root_group_object_header_address: block.root_group_object_header_address,
+    })
+}
+
+/// Whether `parse` takes a plain file, from its superblock to the end of its root header.
+pub fn rust_parses(file: &[u8]) -> bool {
+    catch_unwind(|| parse(file).is_ok()).unwrap_or(false)
 }
 
 fn message_of(thrown: Box<dyn Any + Send>) -> String {

@@ -16,39 +16,58 @@ fn changed(byte: u8, change: usize) -> u8 {
     }
 }
 
-/// Shows every copy of an input with one byte changed in one of the ways, and every copy that is
-/// cut short, from a random one on. Bytes within the range are changed; answers how many copies
-/// were shown.
+/// Shows every copy of a file with one byte changed in one of the ways, and every copy that is cut
+/// short, from a random one on. Bytes within the range are changed; answers how many copies were
+/// shown. What shows a copy gives it back as it was.
 pub fn every_byte(
-    input: &Input,
+    file: &[u8],
     range: std::ops::Range<usize>,
     most: usize,
     random: &mut Random,
-    show: &mut dyn FnMut(&Input),
+    show: &mut dyn FnMut(&mut Vec<u8>),
 ) -> usize {
     let steps = range.len() * (CHANGES + 1);
     if steps == 0 {
         return 0;
     }
     let first = random.below(steps as u64) as usize;
-    let mut copy = input.clone();
+    let mut copy = file.to_vec();
     let count = steps.min(most);
     for step in (first..first + count).map(|step| step % steps) {
         let at = range.start + step / (CHANGES + 1);
         match step % (CHANGES + 1) {
             CHANGES => {
-                copy.file.truncate(at);
-                show(&copy);
-                copy.file.extend(&input.file[at..]);
+                copy.truncate(at);
+                show(&mut copy);
+                copy.extend(&file[at..]);
             }
             change => {
-                copy.file[at] = changed(copy.file[at], change);
-                show(&copy);
-                copy.file[at] = input.file[at];
+                copy[at] = changed(copy[at], change);
+                show(&mut copy);
+                copy[at] = file[at];
             }
         }
     }
     count
+}
+
+/// The same of the file of an input.
+pub fn every_byte_of(
+    input: &Input,
+    range: std::ops::Range<usize>,
+    most: usize,
+    random: &mut Random,
+    show: &mut dyn FnMut(&Input),
+) -> usize {
+    let mut copy = Input {
+        file: Vec::new(),
+        ..*input
+    };
+    every_byte(&input.file, range, most, random, &mut |file| {
+        std::mem::swap(&mut copy.file, file);
+        show(&copy);
+        std::mem::swap(&mut copy.file, file);
+    })
 }
 
 /// The start of one input and the end of another.

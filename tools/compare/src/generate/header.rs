@@ -28,7 +28,7 @@ impl Maker<'_> {
         let before = if first { blocks.pop() } else { None };
         let mut file = Piece::default();
         let gap = self.random.pick(&[0, 0, 0, 1, 5, 8, 40]);
-        file.bytes = self.bytes(gap);
+        file.bytes = self.bytes(self.front + gap);
         file.append(&before.unwrap_or_default());
         let position = file.len() as u64;
         let header = self.header(&plan, flags, held.as_ref());

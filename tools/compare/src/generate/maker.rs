@@ -6,6 +6,8 @@ pub struct Maker<'r> {
     pub random: &'r mut Random,
     pub offset_width: u8,
     pub length_width: u8,
+    /// The bytes that a superblock takes in front of the file.
+    pub front: usize,
     /// Faults that may still be made, and how often, in thousandths of the chances.
     faults: u32,
     rate: u64,
@@ -34,6 +36,7 @@ impl<'r> Maker<'r> {
             random,
             offset_width,
             length_width,
+            front: 0,
             faults,
             rate,
         }

@@ -1,4 +1,4 @@
-//! Inputs from a seed, in batches: the same seed and number give the same batch.
+//! Inputs and plain files from a seed, in batches: the same seed and number give the same batch.
 
 mod attribute;
 mod damage;
@@ -7,6 +7,7 @@ pub mod large;
 mod maker;
 mod messages;
 mod piece;
+pub mod plain;
 mod types;
 
 use crate::input::Input;
@@ -35,7 +36,7 @@ fn damaged(random: &mut Random, show: &mut dyn FnMut(&Input)) {
     while left > 0 {
         let input = Maker::good(random).input();
         let range = 0..input.file.len();
-        left -= damage::every_byte(&input, range, left, random, show);
+        left -= damage::every_byte_of(&input, range, left, random, show);
     }
 }
 
@@ -45,7 +46,7 @@ fn damaged_real(random: &mut Random, real: &[Input], show: &mut dyn FnMut(&Input
         let input = &real[random.below(real.len() as u64) as usize];
         let start = input.position as usize;
         let end = input.file.len().min(start + REAL_SPAN);
-        left -= damage::every_byte(input, start..end, left.min(200), random, show);
+        left -= damage::every_byte_of(input, start..end, left.min(200), random, show);
     }
 }
 

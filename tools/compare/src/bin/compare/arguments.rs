@@ -8,13 +8,15 @@ pub const USAGE: &str = "\
 usage: compare [--seed N] [--count N] [--threads N] [--shown N] [--break FIELD] [FILE...]
        compare --self-test [--seed N] [--count N]
        compare --store FILE [--seed N] [--count N] [--candidates N] [FILE...]
-       compare --one < INPUT";
+       compare --one < INPUT
+       compare --file < FILE";
 
 pub enum Mode {
     Run,
     SelfTest,
     Store(PathBuf),
     One,
+    File,
 }
 
 pub struct Arguments {
@@ -56,6 +58,7 @@ impl Arguments {
         match word {
             "--self-test" => self.mode = Mode::SelfTest,
             "--one" => self.mode = Mode::One,
+            "--file" => self.mode = Mode::File,
             "--store" => self.mode = Mode::Store(value()?.into()),
             "--seed" => self.seed = number(&value()?)?,
             "--count" => self.count = Some(number(&value()?)?),

@@ -2,18 +2,30 @@
 //! find every one of them.
 
 use sides::answer::{Format, Header, Optional, Row};
-use sides::port::Outcome;
+use sides::port::{Outcome, PlainAnswer};
+
+use crate::plain_breakage::PLAIN;
 
 pub struct Breakage {
     pub name: &'static str,
-    change: fn(Outcome) -> Outcome,
+    pub change: Change,
+}
+
+pub enum Change {
+    /// Of a header's answer, by hand or from the root.
+    Header(fn(Outcome) -> Outcome),
+    /// Of the answers for a plain file, which is given too.
+    Plain(fn(&[u8], &mut PlainAnswer)),
 }
 
 const fn breakage(name: &'static str, change: fn(Outcome) -> Outcome) -> Breakage {
-    Breakage { name, change }
+    Breakage {
+        name,
+        change: Change::Header(change),
+    }
 }
 
-pub const ALL: &[Breakage] = &[
+pub const HEADER: &[Breakage] = &[
     breakage("next", |o| header(o, |h| h.next += 1)),
     breakage("entries", |o| header(o, |h| h.entries += 1)),
     breakage("entries-of-many-blocks", |o| header(o, few_blocks)),
@@ -72,14 +84,24 @@ pub const ALL: &[Breakage] = &[
 ];
 
 pub fn named(name: &str) -> Result<&'static Breakage, String> {
-    let names = || ALL.iter().map(|b| b.name).collect::<Vec<_>>().join(", ");
-    let found = ALL.iter().find(|breakage| breakage.name == name);
+    let all = || HEADER.iter().chain(PLAIN);
+    let names = || all().map(|b| b.name).collect::<Vec<_>>().join(", ");
+    let found = all().find(|breakage| breakage.name == name);
     found.ok_or_else(|| format!("{name} is none of {}", names()))
 }
 
 impl Breakage {
-    pub fn apply(&self, outcome: Outcome) -> Outcome {
-        (self.change)(outcome)
+    pub fn break_header(&self, outcome: Outcome) -> Outcome {
+        match self.change {
+            Change::Header(change) => change(outcome),
+            Change::Plain(_) => outcome,
+        }
+    }
+
+    pub fn break_plain(&self, file: &[u8], answer: &mut PlainAnswer) {
+        if let Change::Plain(change) = self.change {
+            change(file, answer);
+        }
     }
 }
 

@@ -2,7 +2,7 @@
 
 use sides::answer::{Header, REFUSED};
 use sides::input::Input;
-use sides::port::{self, Port};
+use sides::port::{self, PlainAnswer, Port};
 use sides::rust::{self, Entry, rust_answer};
 use sides::scan::{self, Outside};
 
@@ -45,16 +45,26 @@ impl Judge {
         }
     }
 
-    fn port_answer(&mut self, input: &Input) -> port::Outcome {
-        let outcome = self.port.answer(input);
+    /// A header's answer, broken where it is to be.
+    pub fn broken(&self, outcome: port::Outcome) -> port::Outcome {
         match self.breakage {
-            Some(breakage) => breakage.apply(outcome),
+            Some(breakage) => breakage.break_header(outcome),
             None => outcome,
         }
     }
 
+    /// The answers for a plain file, broken where they are to be.
+    pub fn plain_answer(&mut self, file: &[u8]) -> PlainAnswer {
+        let mut answer = self.port.plain_answer(file);
+        if let Some(breakage) = self.breakage {
+            breakage.break_plain(file, &mut answer);
+        }
+        answer
+    }
+
     pub fn verdict(&mut self, input: &Input) -> Verdict {
-        let port = self.port_answer(input);
+        let answer = self.port.answer(input);
+        let port = self.broken(answer);
         let widths = 2..=8;
         if !widths.contains(&input.offset_width) || !widths.contains(&input.length_width) {
             return match port {
@@ -62,15 +72,20 @@ impl Judge {
                 other => Verdict::Differs(port_text(&other), "not asked: a width".into()),
             };
         }
-        let rust = rust_answer(input);
-        if let rust::Outcome::Panicked(message) = rust.outcome {
-            return Verdict::Panicked(message, port_text(&port));
-        }
-        if let Some(exclusion) = attributes_outside(input, &rust.entries) {
-            return Verdict::Outside(exclusion);
-        }
-        compared(input, port, rust)
+        against_rust(input, port)
     }
+}
+
+/// The verdict on the port's answer for an input whose widths are allowed.
+pub fn against_rust(input: &Input, port: port::Outcome) -> Verdict {
+    let rust = rust_answer(input);
+    if let rust::Outcome::Panicked(message) = rust.outcome {
+        return Verdict::Panicked(message, port_text(&port));
+    }
+    if let Some(exclusion) = attributes_outside(input, &rust.entries) {
+        return Verdict::Outside(exclusion);
+    }
+    compared(input, port, rust)
 }
 
 /// The verdict on two answers.
@@ -120,14 +135,14 @@ fn text(report: &[u8]) -> String {
     report.escape_ascii().to_string().replace("\\n", "\n")
 }
 
-fn port_text(outcome: &port::Outcome) -> String {
+pub fn port_text(outcome: &port::Outcome) -> String {
     match outcome {
         port::Outcome::Read(header) => text(&header.report()),
         port::Outcome::Refused(number) => format!("refused {number}\n"),
     }
 }
 
-fn rust_text(outcome: &rust::Outcome) -> String {
+pub fn rust_text(outcome: &rust::Outcome) -> String {
     match outcome {
         rust::Outcome::Read(header) => text(&header.report()),
         rust::Outcome::Refused => text(REFUSED),

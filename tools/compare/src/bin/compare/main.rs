@@ -1,10 +1,14 @@
-//! Compares the port with the Rust that it was ported from, on inputs from a seed and on the
-//! headers of real files.
+//! Compares the port with the Rust that it was ported from, on inputs from a seed and on real files
+//! with their headers.
 
 mod arguments;
 mod breakage;
+mod counts;
 mod features;
 mod judge;
+mod plain_breakage;
+mod plain_judge;
+mod plain_run;
 mod run;
 mod self_test;
 mod shrink;
@@ -48,5 +52,6 @@ fn perform(arguments: &Arguments) -> std::io::Result<bool> {
         Mode::SelfTest => Ok(self_test::self_test(arguments)),
         Mode::Store(path) => store::store(arguments, path),
         Mode::One => run::one(arguments),
+        Mode::File => plain_run::file(arguments),
     }
 }

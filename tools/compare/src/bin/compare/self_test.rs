@@ -1,59 +1,115 @@
 //! Whether the comparison finds what is wrong: every breakage of the port's answer must show.
 
 use sides::generate::batch;
+use sides::generate::plain::plain_batch;
 use sides::input::Input;
 
 use crate::arguments::Arguments;
-use crate::breakage::{ALL, Breakage};
+use crate::breakage::{Breakage, HEADER};
 use crate::judge::{Judge, Verdict};
-use crate::shrink::shrink;
+use crate::plain_breakage::PLAIN;
+use crate::shrink::{shrink, shrink_plain};
 
 /// Inputs among which a breakage must show.
 const COUNT: u64 = 200_000;
+
+/// Where a breakage showed: how many inputs were tried, and the bytes of the last and of the
+/// smallest file.
+struct Found {
+    tried: u64,
+    bytes: usize,
+    smallest: usize,
+    /// Whether the smallest one is right where nothing is broken.
+    by_breakage: bool,
+}
 
 /// Whether every breakage was found, and nothing where nothing is broken.
 pub fn self_test(arguments: &Arguments) -> bool {
     let most = arguments.count.unwrap_or(COUNT);
     println!("seed {}, at most {most} inputs for each", arguments.seed);
     let mut passed = true;
-    for breakage in ALL {
-        passed &= found(arguments.seed, most, breakage);
+    for breakage in HEADER {
+        passed &= report(
+            breakage,
+            "input",
+            in_headers(arguments.seed, most, breakage),
+        );
+    }
+    for breakage in PLAIN {
+        passed &= report(
+            breakage,
+            "plain file",
+            in_plain(arguments.seed, most, breakage),
+        );
     }
     passed
 }
 
-fn found(seed: u64, most: u64, breakage: &'static Breakage) -> bool {
-    let mut judge = Judge::new(Some(breakage));
-    let mut differs = |input: &Input| matches!(judge.verdict(input), Verdict::Differs(..));
-    let Some((tried, input)) = first(seed, most, &mut differs) else {
+/// Prints where a breakage showed, and answers whether it did.
+fn report(breakage: &Breakage, what: &str, found: Option<Found>) -> bool {
+    let Some(found) = found else {
         println!("{}: NOT FOUND", breakage.name);
         return false;
     };
-    let smallest = shrink(&input, &mut differs);
-    let shown = differs(&smallest) && !differs_unbroken(&smallest);
     println!(
-        "{}: input {tried} of {} bytes, {} when shrunk{}",
+        "{}: {what} {} of {} bytes, {} when shrunk{}",
         breakage.name,
-        input.file.len(),
-        smallest.file.len(),
-        if shown { "" } else { ": NOT BY THE BREAKAGE" }
+        found.tried,
+        found.bytes,
+        found.smallest,
+        if found.by_breakage {
+            ""
+        } else {
+            ": NOT BY THE BREAKAGE"
+        }
     );
-    shown
+    found.by_breakage
 }
 
-fn differs_unbroken(input: &Input) -> bool {
-    matches!(Judge::new(None).verdict(input), Verdict::Differs(..))
+fn in_headers(seed: u64, most: u64, breakage: &'static Breakage) -> Option<Found> {
+    let differs =
+        |judge: &mut Judge, input: &Input| matches!(judge.verdict(input), Verdict::Differs(..));
+    let mut judge = Judge::new(Some(breakage));
+    let mut broken = |input: &Input| differs(&mut judge, input);
+    let batch = |number, show: &mut dyn FnMut(&Input)| batch(seed, number, &[], show);
+    let (tried, input) = first(most, &batch, &mut broken)?;
+    let smallest = shrink(&input, &mut broken);
+    Some(Found {
+        tried,
+        bytes: input.file.len(),
+        smallest: smallest.file.len(),
+        by_breakage: broken(&smallest) && !differs(&mut Judge::new(None), &smallest),
+    })
+}
+
+fn in_plain(seed: u64, most: u64, breakage: &'static Breakage) -> Option<Found> {
+    let mut judge = Judge::new(Some(breakage));
+    let mut broken = |file: &[u8]| judge.plain_verdict(file).differs();
+    let batch = |number, show: &mut dyn FnMut(&[u8])| plain_batch(seed, number, &[], show);
+    let (tried, file) = first(most, &batch, &mut broken)?;
+    let smallest = shrink_plain(&file, &mut broken);
+    let unbroken = Judge::new(None).plain_verdict(&smallest);
+    Some(Found {
+        tried,
+        bytes: file.len(),
+        smallest: smallest.len(),
+        by_breakage: broken(&smallest) && !unbroken.differs(),
+    })
 }
 
 /// The first input that differs, and how many were tried.
-fn first(seed: u64, most: u64, differs: &mut dyn FnMut(&Input) -> bool) -> Option<(u64, Input)> {
+fn first<T: ToOwned + ?Sized>(
+    most: u64,
+    batch: &dyn Fn(u64, &mut dyn FnMut(&T)),
+    differs: &mut dyn FnMut(&T) -> bool,
+) -> Option<(u64, T::Owned)> {
     let mut tried = 0;
     let mut found = None;
     for number in 0.. {
-        batch(seed, number, &[], &mut |input| {
+        batch(number, &mut |input| {
             if found.is_none() && tried < most {
                 tried += 1;
-                found = differs(input).then(|| input.clone());
+                found = differs(input).then(|| input.to_owned());
             }
         });
         if found.is_some() || tried >= most {

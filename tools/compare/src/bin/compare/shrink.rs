@@ -2,8 +2,12 @@
 
 use std::ops::Range;
 
+use sides::answer::SuperBlock;
 use sides::input::{Input, get};
-use sides::rust::{Entry, rust_answer};
+use sides::plain::{address, version};
+use sides::rust::{Entry, rust_answer, rust_super_block};
+
+use crate::plain_judge::as_version_2;
 
 /// Bytes that are tried at most, and what a try costs beside its bytes.
 const WORK: usize = 200_000_000;
@@ -30,6 +34,33 @@ pub fn shrink(input: &Input, shows: &mut dyn FnMut(&Input) -> bool) -> Input {
     };
     while shrink.round() && shrink.work > 0 {}
     shrink.best
+}
+
+/// A smaller plain file that still shows what `shows` looks for. Where the Rust reads its
+/// superblock, end-of-file address and root follow the bytes that are dropped.
+pub fn shrink_plain(file: &[u8], shows: &mut dyn FnMut(&[u8]) -> bool) -> Vec<u8> {
+    let block = rust_super_block(&as_version_2(file)).unwrap_or(SuperBlock {
+        // Nothing of the file counts its bytes.
+        root_group_object_header_address: u64::MAX,
+        ..SuperBlock::default()
+    });
+    let smallest = shrink(&block.input(file), &mut |input| shows(&with_values(input)));
+    with_values(&smallest)
+}
+
+/// The file of an input, with end-of-file address and position in a superblock of version 2 or 3.
+fn with_values(input: &Input) -> Vec<u8> {
+    let mut file = input.file.clone();
+    let width = usize::from(input.offset_width);
+    if matches!(version(&file), Some(2 | 3)) && width > 0 {
+        for (number, value) in [(2, input.end_of_file), (3, input.position)] {
+            let at = address(number, width as u64);
+            if let Some(field) = file.get_mut(at..at + width) {
+                field.copy_from_slice(&value.to_le_bytes()[..width]);
+            }
+        }
+    }
+    file
 }
 
 impl Shrink<'_> {

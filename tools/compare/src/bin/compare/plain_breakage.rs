@@ -1,0 +1,136 @@
+//! Wrong ports for plain files: each changes one thing in the superblock, or in what the root
+//! operation wrote.
+
+use sides::answer::SuperBlock;
+use sides::plain::version;
+use sides::port::PlainAnswer;
+use sides::rust::rust_super_block;
+
+use crate::breakage::{Breakage, Change};
+
+type Plain = fn(&[u8], &mut PlainAnswer);
+
+const fn breakage(name: &'static str, change: Plain) -> Breakage {
+    Breakage {
+        name,
+        change: Change::Plain(change),
+    }
+}
+
+pub const PLAIN: &[Breakage] = &[
+    breakage("offset-width", |_, a| block(a, |b| b.size_of_offsets += 1)),
+    breakage("length-width", |_, a| block(a, |b| b.size_of_lengths += 1)),
+    breakage("widths-swapped", |_, a| block(a, swap_widths)),
+    breakage("base", |_, a| block(a, |b| b.base_address += 1)),
+    breakage("extension", |_, a| block(a, |b| extension(b, |x| x ^ 1))),
+    breakage("extension-dropped", |_, a| {
+        block(a, |b| b.superblock_extension_address = None)
+    }),
+    breakage("extension-of-all-ones", |_, a| {
+        block(a, |b| extension(b, widen))
+    }),
+    breakage("extension-and-end-swapped", |_, a| block(a, swap_extension)),
+    breakage("end-of-file", |_, a| {
+        block(a, |b| b.end_of_file_address ^= 1)
+    }),
+    breakage("end-of-file-of-7-bytes", |_, a| {
+        block(a, |b| b.end_of_file_address &= u64::MAX >> 8)
+    }),
+    breakage("root", |_, a| {
+        block(a, |b| b.root_group_object_header_address ^= 1)
+    }),
+    breakage("root-and-end-swapped", |_, a| block(a, swap_root)),
+    breakage("refused-for-read", |_, a| refuse(a, 3)),
+    breakage("26-for-read", |_, a| refuse(a, 26)),
+    breakage("2-for-read", |_, a| refuse(a, 2)),
+    breakage("2-for-refused", |_, a| {
+        a.super_block = a.super_block.clone().map_err(|_| 2)
+    }),
+    breakage("version-3-refused", version_3_refused),
+    breakage("width-read", |_, a| accept(a, 1)),
+    breakage("short-read", |_, a| accept(a, 3)),
+    breakage("signature-read", |_, a| accept(a, 25)),
+    breakage("version-read", |_, a| accept(a, 26)),
+    breakage("base-read", |_, a| accept(a, 27)),
+    breakage("early-version-as-the-rust", |f, a| as_rust(f, a, 26)),
+    breakage("no-checksum-as-the-rust", |f, a| as_rust(f, a, 3)),
+    breakage("root-number", |_, a| a.root.object.refused ^= 1),
+    breakage("root-next", |_, a| a.root.object.next += 1),
+    breakage("root-data", |_, a| a.root.object.data_length += 1),
+    breakage("root-row", |_, a| a.root.table[3] ^= 1),
+    breakage("root-last-word", |_, a| last_word(a)),
+    breakage("root-of-refused", root_of_refused),
+];
+
+/// Changes a superblock that is read.
+fn block(answer: &mut PlainAnswer, change: fn(&mut SuperBlock)) {
+    if let Ok(block) = &mut answer.super_block {
+        change(block);
+    }
+}
+
+fn refuse(answer: &mut PlainAnswer, number: u64) {
+    if answer.super_block.is_ok() {
+        answer.super_block = Err(number);
+    }
+}
+
+/// Reads, as zeros, what is refused with a number.
+fn accept(answer: &mut PlainAnswer, number: u64) {
+    if answer.super_block == Err(number) {
+        answer.super_block = Ok(SuperBlock::default());
+    }
+}
+
+/// Reads as the Rust does what is refused with a number.
+fn as_rust(file: &[u8], answer: &mut PlainAnswer, number: u64) {
+    if answer.super_block == Err(number) {
+        answer.super_block = rust_super_block(file).ok_or(number);
+    }
+}
+
+fn version_3_refused(file: &[u8], answer: &mut PlainAnswer) {
+    if version(file) == Some(3) {
+        refuse(answer, 26);
+    }
+}
+
+fn extension(block: &mut SuperBlock, change: fn(u64) -> u64) {
+    block.superblock_extension_address = block.superblock_extension_address.map(change);
+}
+
+/// All ones of any width as all ones of 8 bytes.
+fn widen(address: u64) -> u64 {
+    let all_ones = address != 0 && address.trailing_ones() == 64 - address.leading_zeros();
+    if all_ones { u64::MAX } else { address }
+}
+
+fn swap_widths(block: &mut SuperBlock) {
+    std::mem::swap(&mut block.size_of_offsets, &mut block.size_of_lengths);
+}
+
+fn swap_extension(block: &mut SuperBlock) {
+    let end = block.end_of_file_address;
+    block.end_of_file_address = block.superblock_extension_address.unwrap_or(0);
+    block.superblock_extension_address = Some(end);
+}
+
+fn swap_root(block: &mut SuperBlock) {
+    std::mem::swap(
+        &mut block.end_of_file_address,
+        &mut block.root_group_object_header_address,
+    );
+}
+
+fn last_word(answer: &mut PlainAnswer) {
+    if let Some(word) = answer.root.table.last_mut() {
+        *word += 1;
+    }
+}
+
+/// Leaves something in the table where the superblock is refused.
+fn root_of_refused(_: &[u8], answer: &mut PlainAnswer) {
+    if answer.super_block.is_err() {
+        answer.root.table[0] = 1;
+    }
+}

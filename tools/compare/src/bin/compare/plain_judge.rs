@@ -1,0 +1,174 @@
+//! One plain file: the superblock and the root header of both sides, and what the comparison says
+//! of them.
+
+use std::borrow::Cow;
+
+use sides::answer::SuperBlock;
+use sides::plain::{VERSION, end, version};
+use sides::port::Written;
+use sides::rust::{rust_answer, rust_parses, rust_super_block};
+
+use crate::judge::{Judge, Verdict, against_rust, port_text, rust_text};
+
+const LARGEST_FILE: usize = 1 << 31;
+
+/// Why a superblock is outside the comparison.
+#[derive(Clone, Copy, Debug, PartialEq, Eq, PartialOrd, Ord)]
+pub enum PlainExclusion {
+    FileSize,
+    /// Version 0 or 1, which the Rust reads and the port does not.
+    EarlyVersion,
+    /// The checksum's bytes are not there, which the port asks for and the Rust does not.
+    NoChecksum,
+}
+
+pub enum PlainVerdict {
+    /// Both read the same superblock, of this version; the verdict is on the root header.
+    Read(u8, Verdict),
+    /// Both refuse the superblock, the port with this number.
+    Refused(u64),
+    Outside(PlainExclusion),
+    /// What the port says, and what the Rust.
+    Differs(String, String),
+}
+
+impl PlainVerdict {
+    pub fn differs(&self) -> bool {
+        matches!(
+            self,
+            PlainVerdict::Differs(..) | PlainVerdict::Read(_, Verdict::Differs(..))
+        )
+    }
+
+    pub fn panicked(&self) -> bool {
+        matches!(self, PlainVerdict::Read(_, Verdict::Panicked(..)))
+    }
+}
+
+impl PlainExclusion {
+    pub fn text(self) -> &'static str {
+        match self {
+            PlainExclusion::FileSize => "the port answers 2",
+            PlainExclusion::EarlyVersion => {
+                "version 0 or 1, which the Rust reads; the port answers 26"
+            }
+            PlainExclusion::NoChecksum => {
+                "the checksum's bytes missing, which the Rust does not read; the port answers 3"
+            }
+        }
+    }
+}
+
+impl Judge {
+    pub fn plain_verdict(&mut self, file: &[u8]) -> PlainVerdict {
+        let answer = self.plain_answer(file);
+        let ours = &answer.super_block;
+        if answer.root != answer.by_hand {
+            return unlike_by_hand(&answer.root, &answer.by_hand);
+        }
+        if version(file) == Some(3) && rust_super_block(file).is_some() {
+            return PlainVerdict::Differs(block_text(ours), "it reads version 3\n".into());
+        }
+        match (ours, rust_super_block(&as_version_2(file))) {
+            (Ok(block), Some(theirs)) if *block == theirs && due(file, block) => {
+                let root = self.broken(answer.root.outcome(file));
+                PlainVerdict::Read(file[VERSION], against_rust(&block.input(file), root))
+            }
+            (Ok(block), Some(theirs)) if *block == theirs => {
+                PlainVerdict::Differs(block_text(ours), "the port has to refuse it\n".into())
+            }
+            (Err(number), theirs) => refused(file, *number, theirs),
+            (_, theirs) => differs(ours, theirs),
+        }
+    }
+}
+
+/// The root operation writes something else than the call by hand: the first word of it.
+fn unlike_by_hand(root: &Written, by_hand: &Written) -> PlainVerdict {
+    let first = |ours: &[u64], theirs: &[u64]| {
+        let mut words = ours.iter().zip(theirs).enumerate();
+        let (at, (ours, theirs)) = words.find(|(_, (ours, theirs))| ours != theirs)?;
+        Some((at, *ours, *theirs))
+    };
+    let object = first(root.object.words(), by_hand.object.words());
+    let table = first(&root.table, &by_hand.table);
+    let place = if object.is_some() { "object" } else { "table" };
+    let (at, ours, theirs) = object.or(table).expect("words that differ");
+    PlainVerdict::Differs(
+        format!("the root operation has {ours} as word {at} of the {place}\n"),
+        format!("not asked; the port by hand has {theirs}\n"),
+    )
+}
+
+/// A file as the Rust is given it, since it does not read version 3: with version 2 in its place.
+/// The other fields are the same.
+pub fn as_version_2(file: &[u8]) -> Cow<'_, [u8]> {
+    let mut given = Cow::Borrowed(file);
+    if version(file) == Some(3) {
+        given.to_mut()[VERSION] = 2;
+    }
+    given
+}
+
+/// Whether the port has to read a superblock that the Rust reads.
+fn due(file: &[u8], block: &SuperBlock) -> bool {
+    matches!(version(file), Some(2 | 3)) && file.len() >= end(block.size_of_offsets)
+}
+
+/// The verdict on a superblock that the port refuses.
+fn refused(file: &[u8], number: u64, theirs: Option<SuperBlock>) -> PlainVerdict {
+    let early = matches!(version(file), Some(0 | 1));
+    match (number, theirs) {
+        (2, _) if file.len() > LARGEST_FILE => PlainVerdict::Outside(PlainExclusion::FileSize),
+        (2, theirs) => differs(&Err(number), theirs),
+        (26, Some(_)) if early => PlainVerdict::Outside(PlainExclusion::EarlyVersion),
+        (3, Some(block)) if !early && !due(file, &block) => {
+            PlainVerdict::Outside(PlainExclusion::NoChecksum)
+        }
+        (_, None) => PlainVerdict::Refused(number),
+        (_, theirs) => differs(&Err(number), theirs),
+    }
+}
+
+fn differs(ours: &Result<SuperBlock, u64>, theirs: Option<SuperBlock>) -> PlainVerdict {
+    PlainVerdict::Differs(block_text(ours), rust_block_text(theirs.as_ref()))
+}
+
+fn block_text(block: &Result<SuperBlock, u64>) -> String {
+    match block {
+        Ok(block) => block.report(),
+        Err(number) => format!("superblock refused {number}\n"),
+    }
+}
+
+fn rust_block_text(block: Option<&SuperBlock>) -> String {
+    block.map_or("superblock refused\n".into(), SuperBlock::report)
+}
+
+/// Both sides' superblock and root header, and whether the Rust's `parse` takes the file.
+pub fn plain_text(judge: &mut Judge, file: &[u8]) -> String {
+    let answer = judge.plain_answer(file);
+    let port = port_text(&judge.broken(answer.root.outcome(file)));
+    let parse = if rust_parses(file) {
+        "takes"
+    } else {
+        "refuses"
+    };
+    let mut text = format!("port:\n{}{port}", block_text(&answer.super_block));
+    text += &format!("Rust:\n{}", rust_plain_text(file, file));
+    if version(file) == Some(3) {
+        let given = as_version_2(file);
+        text += &format!("Rust, given version 2:\n{}", rust_plain_text(&given, file));
+    }
+    text + &format!("`parse` of the Rust {parse} the file\n")
+}
+
+/// The Rust's superblock, and the root header that it leads to.
+fn rust_plain_text(given: &[u8], file: &[u8]) -> String {
+    let block = rust_super_block(given);
+    let root = block.as_ref().map(|block| {
+        let answer = rust_answer(&block.input(file));
+        rust_text(&answer.outcome)
+    });
+    rust_block_text(block.as_ref()) + &root.unwrap_or_default()
+}

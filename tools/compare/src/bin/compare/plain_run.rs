@@ -1,0 +1,171 @@
+//! The comparison of plain files: real ones as they are, and those from the seed.
+
+use std::collections::BTreeMap;
+use std::io::{self, Read};
+use std::time::Instant;
+
+use sides::generate::plain::plain_batch;
+use sides::input::digits;
+use sides::real;
+
+use crate::arguments::Arguments;
+use crate::counts::{Counts, Sum, add_all, count, print_refused};
+use crate::judge::{Judge, Verdict};
+use crate::plain_judge::{PlainExclusion, PlainVerdict, plain_text};
+use crate::run::{keep, over_threads, print_answers, print_speed};
+use crate::shrink::shrink_plain;
+
+#[derive(Default)]
+struct Plain {
+    files: u64,
+    /// Superblocks that both read, by version.
+    read: BTreeMap<u8, u64>,
+    refused: BTreeMap<u64, u64>,
+    outside: BTreeMap<PlainExclusion, u64>,
+    differing: u64,
+    /// The root headers behind superblocks that both read.
+    roots: Counts,
+    /// Files that disagree or panic.
+    shown: Vec<Vec<u8>>,
+}
+
+impl Plain {
+    fn count(&mut self, file: &[u8], verdict: &PlainVerdict) {
+        self.files += 1;
+        match verdict {
+            PlainVerdict::Read(version, root) => {
+                count(&mut self.read, *version);
+                self.roots.count(root);
+            }
+            PlainVerdict::Refused(number) => count(&mut self.refused, *number),
+            PlainVerdict::Outside(why) => count(&mut self.outside, *why),
+            PlainVerdict::Differs(..) => self.differing += 1,
+        }
+        if verdict.differs() || verdict.panicked() {
+            keep(&mut self.shown, file);
+        }
+    }
+
+    fn disagreements(&self) -> u64 {
+        self.differing + self.roots.differing
+    }
+
+    fn print(&self, real: usize, start: Instant) {
+        println!(
+            "\nplain files {}, {real} of them real files as they are",
+            self.files
+        );
+        print_speed(self.files, "files", start);
+        println!(
+            "superblocks read by both {}",
+            self.read.values().sum::<u64>()
+        );
+        for (version, count) in &self.read {
+            let given = if *version == 3 {
+                ", the Rust being given version 2"
+            } else {
+                ""
+            };
+            println!("  of version {version}{given}: {count}");
+        }
+        print_refused("superblocks refused by both", &self.refused);
+        let outside: u64 = self.outside.values().sum();
+        println!("superblocks outside the comparison {outside}");
+        for (why, count) in &self.outside {
+            println!("  {}: {count}", why.text());
+        }
+        self.roots.print("root headers ");
+        println!("panics of the Rust in plain files {}", self.roots.panicked);
+        println!("disagreements in plain files {}", self.disagreements());
+    }
+}
+
+impl Sum for Plain {
+    fn add(&mut self, other: Plain) {
+        self.files += other.files;
+        self.differing += other.differing;
+        add_all(&mut self.read, other.read);
+        add_all(&mut self.refused, other.refused);
+        add_all(&mut self.outside, other.outside);
+        self.roots.add(other.roots);
+        self.shown.extend(other.shown);
+    }
+}
+
+/// Compares so many plain files from the seed beside the real ones, and prints the counts.
+pub fn plain(arguments: &Arguments, count: u64) -> io::Result<bool> {
+    let real = real::plain(&arguments.files)?;
+    let start = Instant::now();
+    let mut plain = Plain::default();
+    let mut judge = Judge::new(arguments.breakage);
+    for file in &real {
+        plain.count(file, &judge.plain_verdict(file));
+    }
+    plain.add(over_threads(
+        arguments,
+        count,
+        &|number, judge, plain: &mut Plain| {
+            plain_batch(arguments.seed, number, &real, &mut |file| {
+                plain.count(file, &judge.plain_verdict(file));
+            });
+        },
+    ));
+    plain.print(real.len(), start);
+    plain.shown.sort_by_key(Vec::len);
+    for file in plain.shown.iter().take(arguments.shown) {
+        print_smallest(&mut judge, file);
+    }
+    Ok(plain.disagreements() == 0 && plain.roots.panicked == 0)
+}
+
+/// Shrinks a file that disagrees or panics, and prints it with what both sides say.
+fn print_smallest(judge: &mut Judge, file: &[u8]) {
+    let panics = judge.plain_verdict(file).panicked();
+    let smallest = shrink_plain(file, &mut |smaller| {
+        let verdict = judge.plain_verdict(smaller);
+        if panics {
+            verdict.panicked()
+        } else {
+            verdict.differs()
+        }
+    });
+    println!("\nplain file {}", digits(&smallest));
+    print_verdict(&judge.plain_verdict(&smallest));
+}
+
+fn print_verdict(verdict: &PlainVerdict) {
+    match verdict {
+        PlainVerdict::Read(_, root) => print_answers(root),
+        PlainVerdict::Refused(number) => println!("both:\nrefused, by the port with {number}"),
+        PlainVerdict::Outside(why) => println!("outside the comparison: {}", why.text()),
+        PlainVerdict::Differs(port, rust) => print!("port:\n{port}Rust:\n{rust}"),
+    }
+}
+
+/// One plain file from standard input: what both sides say of it.
+pub fn file(arguments: &Arguments) -> io::Result<bool> {
+    let mut file = Vec::new();
+    io::stdin().read_to_end(&mut file)?;
+    let mut judge = Judge::new(arguments.breakage);
+    print!("{}", plain_text(&mut judge, &file));
+    let verdict = judge.plain_verdict(&file);
+    println!("{}", summary(&verdict));
+    Ok(!verdict.differs() && !verdict.panicked())
+}
+
+fn summary(verdict: &PlainVerdict) -> String {
+    match verdict {
+        PlainVerdict::Read(_, Verdict::Accepted(_)) => "both accept".into(),
+        PlainVerdict::Read(_, Verdict::Refused(number)) => {
+            format!("both refuse the root header, the port with {number}")
+        }
+        PlainVerdict::Read(_, Verdict::Outside(why)) => {
+            format!("the root header is outside the comparison: {}", why.text())
+        }
+        PlainVerdict::Refused(number) => {
+            format!("both refuse the superblock, the port with {number}")
+        }
+        PlainVerdict::Outside(why) => format!("outside the comparison: {}", why.text()),
+        PlainVerdict::Read(..) | PlainVerdict::Differs(..) => "they disagree".into(),
+    }
+}

@@ -1,0 +1,23 @@
+//! Plain files: what the root operation is given. Their superblock begins at byte 0.
+
+pub const SIGNATURE: &[u8] = b"\x89HDF\r\n\x1a\n";
+/// Where the version of a superblock stands.
+pub const VERSION: usize = SIGNATURE.len();
+/// Where the four addresses of versions 2 and 3 begin: two widths and the flags stand before them.
+const ADDRESSES: usize = VERSION + 4;
+
+/// The version of a file's superblock, where the signature and its byte are there.
+pub fn version(file: &[u8]) -> Option<u8> {
+    file.strip_prefix(SIGNATURE)?.first().copied()
+}
+
+/// Where an address of version 2 or 3 stands: 0 the base, 1 the extension, 2 the end-of-file, 3 the
+/// root; and with 4 the checksum behind them.
+pub fn address(number: usize, offset_width: u64) -> usize {
+    ADDRESSES + number * offset_width as usize
+}
+
+/// Where a superblock of version 2 or 3 ends.
+pub fn end(offset_width: u64) -> usize {
+    address(4, offset_width) + 4
+}
