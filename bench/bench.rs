@@ -1,6 +1,6 @@
 //! The port and the Rust on the same inputs, by one driver.
 //!
-//!     bench make DIRECTORY [FILE...]   writes the inputs: made ones, and the headers of real files
+//!     bench make DIRECTORY [FILE...]   writes the inputs: made ones, real files, and their headers
 //!     bench SIDE INPUT TIMES           decodes an input so many times; SIDE is port or rust
 //!     bench time INPUT                 nanoseconds a call, the best of many runs: port, then rust
 //!     bench entries INPUT              the entries of an input that both sides accept
@@ -11,9 +11,10 @@ use std::process::ExitCode;
 use std::time::Instant;
 
 use sides::input::{Input, put};
+use sides::plain::SIGNATURE;
 use sides::port::{Outcome as PortOutcome, Port};
 use sides::real;
-use sides::rust::{self, Outcome, rust_answer, rust_data_object};
+use sides::rust::{self, Outcome, rust_answer, rust_data_object, rust_parses, rust_super_block};
 
 const LEVELS: usize = 25;
 const ENTRIES: usize = 4096;
@@ -21,6 +22,14 @@ const ATTRIBUTE: u8 = 12;
 const CONTINUATION: u8 = 16;
 /// An entry's prefix and a continuation's two numbers.
 const CONTINUATION_BYTES: usize = 4 + 8 + 8;
+
+/// What both sides are given.
+enum Given {
+    /// A header, with values given by hand.
+    Header(Input),
+    /// A plain file, whose root's header is decoded.
+    File(Vec<u8>),
+}
 
 fn entry(kind: u8, body: &[u8]) -> Vec<u8> {
     let mut bytes = vec![kind];
@@ -149,11 +158,21 @@ fn real_inputs(path: &Path) -> std::io::Result<Vec<(String, Input)>> {
         .collect())
 }
 
+/// Whether a file is one that both sides take as a whole.
+fn is_plain(file: &[u8]) -> bool {
+    rust_parses(file) && Port::default().root_object(file).is_some()
+}
+
 fn make(directory: &Path, files: &[&str]) -> std::io::Result<()> {
     std::fs::create_dir_all(directory)?;
     let mut inputs = made();
-    for file in files {
-        inputs.extend(real_inputs(Path::new(file))?);
+    for path in files.iter().map(Path::new) {
+        inputs.extend(real_inputs(path)?);
+        let file = std::fs::read(path)?;
+        if is_plain(&file) {
+            let stem = path.file_stem().unwrap_or_default().to_string_lossy();
+            std::fs::write(directory.join(format!("{stem}-file")), file)?;
+        }
     }
     for (name, input) in inputs {
         std::fs::write(directory.join(name), input.to_bytes())?;
@@ -161,26 +180,52 @@ fn make(directory: &Path, files: &[&str]) -> std::io::Result<()> {
     Ok(())
 }
 
-fn load(path: &str) -> Input {
+fn load(path: &str) -> Given {
     let bytes = std::fs::read(path).expect("an input");
-    Input::from_bytes(&bytes).expect("18 lead bytes")
+    if bytes.starts_with(SIGNATURE) {
+        return Given::File(bytes);
+    }
+    Given::Header(Input::from_bytes(&bytes).expect("18 lead bytes"))
+}
+
+/// The header, by hand: of a file that of its root.
+fn by_hand(given: &Given) -> Input {
+    match given {
+        Given::Header(input) => input.clone(),
+        Given::File(file) => rust_super_block(file).expect("a superblock").input(file),
+    }
 }
 
 /// As many rows as the header has messages.
-fn port_for(input: &Input) -> Port {
-    match Port::default().answer(input) {
+fn port_for(given: &Given) -> Port {
+    match Port::default().answer(&by_hand(given)) {
         PortOutcome::Read(header) => Port::lending(header.rows.len()),
         PortOutcome::Refused(number) => panic!("the port refuses with {number}"),
     }
 }
 
-fn run(side: &str, input: &Input, times: usize) {
-    let mut port = port_for(input);
+fn call_port(port: &mut Port, given: &Given) {
+    match given {
+        Given::Header(input) => black_box(port.data_object(black_box(input))),
+        Given::File(file) => black_box(port.root_object(black_box(file))),
+    };
+}
+
+/// For a file `parse`, which is the Rust's own way from a file to its root.
+fn call_rust(given: &Given) {
+    match given {
+        Given::Header(input) => black_box(rust_data_object(black_box(input)).is_some()),
+        Given::File(file) => black_box(rust_parses(black_box(file))),
+    };
+}
+
+fn run(side: &str, given: &Given, times: usize) {
+    let mut port = port_for(given);
     for _ in 0..times {
         if side == "port" {
-            black_box(port.data_object(black_box(input)));
+            call_port(&mut port, given);
         } else {
-            black_box(rust_data_object(black_box(input)));
+            call_rust(given);
         }
     }
 }
@@ -195,20 +240,16 @@ fn best(mut call: impl FnMut()) -> u128 {
     least
 }
 
-fn time(input: &Input) {
-    let mut port = port_for(input);
-    let ours = best(|| {
-        black_box(port.data_object(black_box(input)));
-    });
-    let theirs = best(|| {
-        black_box(rust_data_object(black_box(input)));
-    });
+fn time(given: &Given) {
+    let mut port = port_for(given);
+    let ours = best(|| call_port(&mut port, given));
+    let theirs = best(|| call_rust(given));
     println!("{ours} {theirs}");
 }
 
-fn entries(input: &Input) {
+fn entries(given: &Given) {
     rust::open();
-    match rust_answer(input).outcome {
+    match rust_answer(&by_hand(given)).outcome {
         Outcome::Read(header) => println!("{}", header.entries),
         _ => println!("refused"),
     }

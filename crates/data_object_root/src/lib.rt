@@ -6,7 +6,7 @@ use row::clear_behind;
 use super_block::SuperBlockRead;
 use super_block::super_block;
 ghost use mathlib.Core.Path.{_≡_};
-ghost use lib.ListN.{length, replicate};
+ghost use lib.ListN.{length};
 ghost use Rattle.records.specs.Refusals.{refusalNumber};
 ghost use Rattle.data_object_root.specs.Root.{refusedWords, HandedRoot};
 

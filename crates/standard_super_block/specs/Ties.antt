@@ -56,7 +56,7 @@ super-block-tied =
     }))))))))))))))))))
 
 -- What is asked of a superblock of the specification so that it is read: a file that is not too large (part two, entry 2), widths of 2 to 8 bytes
--- (entry 2), and a base address of 0 (entry 1).
+-- (entry 2), and a base address of 0 (entry 95).
 pub record ReadSuperblock (file : List ℕ) (x : Superblock) : Type 0 where
   pub small : length file ≤ fileLimit
   pub offsets : widthAllowed (x .size-of-offsets) ≡ true

@@ -1,1 +1,2 @@
-// Specifications alone: the datatype message that is read, beside the standard's.
+// Specifications alone: the superblock that is read, and the root's header that it leads to, beside
+// the standard's.

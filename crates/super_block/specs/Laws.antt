@@ -1,5 +1,5 @@
 -- The test of the version, and what a superblock that is read has passed: the file's size, and the tests of its widths. Assumes nothing.
-use Prim.Native.Nat.{ℕ, zero, suc, _+_, _≤_, _<_}
+use Prim.Native.Nat.{ℕ, zero, suc, _+_, _≤_}
 use mathlib.Core.Path.{_≡_, refl, sym, ap, _∙_}
 use mathlib.Core.Bool.{Bool, true, false, _&&_, _||_}
 use mathlib.Core.List.{List}
@@ -9,10 +9,10 @@ use lib.Dec.{eqb, leb}
 use borrow.Author.Tests.{leb-true, ne-eqb}
 use Rattle.format.specs.Bools.{and-right}
 use Rattle.format.specs.Bytes.{le}
-use Rattle.format.specs.Format.{Stands, Out, found, refused, pick, read}
+use Rattle.format.specs.Format.{Stands, found, refused, pick, read}
 use Rattle.format.specs.Laws.{sound, never}
 use Rattle.format.specs.Standing.{stands-check}
-use Rattle.parser.specs.States.{fileLimit, widthAllowed, Widths, stateFor}
+use Rattle.parser.specs.States.{fileLimit, widthAllowed}
 use Rattle.parser.specs.StateLaws.{widths-of}
 use Rattle.super_block.specs.declared.SuperBlock.{SuperBlock}
 use Rattle.super_block.specs.declared.SuperBlockRead.{SuperBlockRead}
@@ -21,11 +21,8 @@ use Rattle.super_block.specs.SuperBlocks.{addresses, superBlock, superBl
 use Rattle.super_block.specs.Answers.{superBlockOut, WidthsRead}
 
 -- the versions that are known are those from 2 to 3
-pub version-before : {v : ℕ} → v < 2 → eqb v 2 || eqb v 3 ≡ false
-version-before {v} h = rw (ne-eqb v 2 (λ e. omega arith), ne-eqb v 3 (λ e. omega arith))
-
-pub version-behind : {v : ℕ} → 3 < v → eqb v 2 || eqb v 3 ≡ false
-version-behind {v} h = rw (ne-eqb v 2 (λ e. omega arith), ne-eqb v 3 (λ e. omega arith))
+pub version-other : (v : ℕ) → (v ≡ 2 → ⊥) → (v ≡ 3 → ⊥) → eqb v 2 || eqb v 3 ≡ false
+version-other v a b = rw (ne-eqb v 2 a, ne-eqb v 3 b)
 
 pub version-known : (v : ℕ) → 2 ≤ v → v ≤ 3 → eqb v 2 || eqb v 3 ≡ true
 version-known zero l m = absurd (omega arith)

@@ -1,3 +1,4 @@
 pub mod SuperBlocks
 pub mod Answers
 pub mod Laws
+pub mod Positive

@@ -155,6 +155,12 @@ impl Port {
         (self.object.refused == 0).then_some((self.object.next, self.object.rows))
     }
 
+    /// The root operation alone, as the call above.
+    pub fn root_object(&mut self, file: &[u8]) -> Option<(u64, u64)> {
+        self.call_root(file, self.table.len());
+        (self.object.refused == 0).then_some((self.object.next, self.object.rows))
+    }
+
     /// The call, over the first words of the table.
     fn call(&mut self, input: &Input, words: usize) {
         let table = &mut self.table[..words];

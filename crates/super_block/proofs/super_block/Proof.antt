@@ -1,8 +1,9 @@
 -- Each field and its test is one step of the format; the addresses are the rest of it.
+use native.Mathlib.Omega.{arith}
 use borrow.Author.Tests.{eq-eqb, ne-eqb, le-leb, lt-leb, not-true, not-false}
 use Rattle.format.specs.Steps.{read-number, read-refuse}
 use Rattle.super_block.specs.SuperBlocks.{superBlock, superBlockOf}
-use Rattle.super_block.specs.Laws.{version-before, version-behind, version-known, with-widths, allowed-most}
+use Rattle.super_block.specs.Laws.{version-other, version-known, with-widths, allowed-most}
 use borrow.Author.Needs.{needs}
 use Rattle.super_block.proofs.super_block.Statement.{statement}
 use Rattle.super_block.proofs.super_block.Tie as tie
@@ -43,11 +44,11 @@ returns-4 c = (rw (le-leb _ _ (c .before .before .before .before .before .before
 
 returns-5 : tie.Need-returns-5
 unfolding superBlockOf superBlock
-returns-5 c = (rw (le-leb _ _ (c .before .before .before .before .before .before .before .before .before .before .if1 .left), read-number, ← c .before .before .before .before .before .before .before .before .before .le-u64 .ensures, c .before .before .before .before .before .before .before .signature .given .1, eq-eqb _ _ (c .before .before .before .before .before .if2 .left), read-number, ← c .before .before .before .before .le-u8 .ensures, c .before .before .version .given .1, version-before (c .if3 .taken), read-refuse), tt)
+returns-5 c = (rw (le-leb _ _ (c .before .before .before .before .before .before .before .before .before .before .if1 .left), read-number, ← c .before .before .before .before .before .before .before .before .before .le-u64 .ensures, c .before .before .before .before .before .before .before .signature .given .1, eq-eqb _ _ (c .before .before .before .before .before .if2 .left), read-number, ← c .before .before .before .before .le-u8 .ensures, c .before .before .version .given .1, version-other (c .before .before .version .given .0 .0) (λ e. omega (arith, c .if3 .taken)) (λ e. omega (arith, c .if3 .taken)), read-refuse), tt)
 
 returns-6 : tie.Need-returns-6
 unfolding superBlockOf superBlock
-returns-6 c = (rw (le-leb _ _ (c .before .before .before .before .before .before .before .before .before .before .before .if1 .left), read-number, ← c .before .before .before .before .before .before .before .before .before .before .le-u64 .ensures, c .before .before .before .before .before .before .before .before .signature .given .1, eq-eqb _ _ (c .before .before .before .before .before .before .if2 .left), read-number, ← c .before .before .before .before .before .le-u8 .ensures, c .before .before .before .version .given .1, version-behind (c .if4 .taken), read-refuse), tt)
+returns-6 c = (rw (le-leb _ _ (c .before .before .before .before .before .before .before .before .before .before .before .if1 .left), read-number, ← c .before .before .before .before .before .before .before .before .before .before .le-u64 .ensures, c .before .before .before .before .before .before .before .before .signature .given .1, eq-eqb _ _ (c .before .before .before .before .before .before .if2 .left), read-number, ← c .before .before .before .before .before .le-u8 .ensures, c .before .before .before .version .given .1, version-other (c .before .before .before .version .given .0 .0) (λ e. omega (arith, c .if4 .taken)) (λ e. omega (arith, c .if4 .taken)), read-refuse), tt)
 
 le-u8-requires-2 : tie.Need-le-u8-requires-2
 le-u8-requires-2 c κs = search needs

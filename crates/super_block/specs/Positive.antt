@@ -1,0 +1,66 @@
+-- No refusal of a superblock has the number 0, since none of its tests has. Assumes nothing.
+use Prim.Native.Nat.{ℕ, _+_}
+use mathlib.Core.Path.{_≡_, sym}
+use mathlib.Core.Bool.{Bool, true, false, _||_}
+use mathlib.Core.List.{List}
+use native.Mathlib.Omega.{arith}
+use lib.ListN.{length}
+use lib.Dec.{eqb, leb}
+use Rattle.format.specs.Bytes.{le}
+use Rattle.format.specs.Format.{Format, done, number, Out, refused, read, pick, check}
+use Rattle.format.specs.Laws.{never}
+use Rattle.parser.specs.States.{fileLimit, widthAllowed}
+use Rattle.super_block.specs.SuperBlocks.{addresses, superBlock, superBlockOf}
+
+-- one refusal is no other
+refusal : {A : Type 0} {m n : ℕ} → _≡_ {A = Out A} (refused m) (refused n) → m ≡ n
+refusal e = cc
+
+module _ (s : List ℕ) where
+  done-positive : {A : Type 0} (x : A) (p : ℕ) → read s (done x) p ≡ refused 0 → ⊥
+  unfolding read
+  done-positive x p e = never (sym e)
+
+  number-positive : {A : Type 0} (w : ℕ) (k : ℕ → Format A) (p : ℕ) → ((v q : ℕ) → read s (k v) q ≡ refused 0 → ⊥) → read s (number w k) p ≡ refused 0 → ⊥
+  unfolding read
+  number-positive {A} w k p f e = go (leb (p + w) (length s)) e
+    where
+      go : (t : Bool) → _≡_ {A = Out A} (elim t [ true ↦ read s (k (le s p w)) (p + w) | false ↦ refused 3 ]) (refused 0) → ⊥
+      go true d = f (le s p w) (p + w) d
+      go false d = let z : _≡_ {A = ℕ} 3 0 = refusal d in omega arith
+
+  check-positive : {A : Type 0} (t : Bool) (n : ℕ) (F : Format A) (p : ℕ) → (n ≡ 0 → ⊥) → (read s F p ≡ refused 0 → ⊥) → read s (check t n F) p ≡ refused 0 → ⊥
+  unfolding read
+  check-positive true n F p z f e = f e
+  check-positive false n F p z f e = z (refusal e)
+
+  addresses-positive : (o l p : ℕ) → read s (addresses o l) p ≡ refused 0 → ⊥
+  unfolding addresses
+  addresses-positive o l p =
+      number-positive o _ p (λ base q.
+      check-positive (eqb base 0) 27 _ q (λ e. omega arith) (
+      number-positive o _ q (λ extension q.
+      number-positive o _ q (λ end q.
+      number-positive o _ q (λ root q.
+      number-positive 4 _ q (λ checksum q. done-positive _ q))))))
+
+  pub refusal-not-0 : superBlockOf s ≡ refused 0 → ⊥
+  unfolding superBlockOf superBlock
+  refusal-not-0 e = go (leb (length s) fileLimit) e
+    where
+      block : read s superBlock 0 ≡ refused 0 → ⊥
+      block =
+          number-positive 8 _ 0 (λ signature q.
+          check-positive (eqb signature 0x0A1A0A0D46444889) 25 _ q (λ e. omega arith) (
+          number-positive 1 _ q (λ version q.
+          check-positive (eqb version 2 || eqb version 3) 26 _ q (λ e. omega arith) (
+          number-positive 1 _ q (λ offsets q.
+          check-positive (widthAllowed offsets) 1 _ q (λ e. omega arith) (
+          number-positive 1 _ q (λ lengths q.
+          check-positive (widthAllowed lengths) 1 _ q (λ e. omega arith) (
+          number-positive 1 _ q (λ flags q.
+          addresses-positive offsets lengths q)))))))))
+
+      go : (t : Bool) → pick t (read s superBlock 0) (refused 2) ≡ refused 0 → ⊥
+      go true d = block d
+      go false d = let z : _≡_ {A = ℕ} 2 0 = refusal d in omega arith
