@@ -15,6 +15,7 @@ use ohdr_walk::Limits;
 use ohdr_walk::Progress;
 use ohdr_walk::Walk;
 use ohdr_walk::collect_all_messages;
+use parser::FILE_LIMIT;
 use parser::NewState;
 use parser::State;
 use records::AttributeInfo;
@@ -151,7 +152,7 @@ pub fn data_object(
             return rejected(r);
         }
     };
-    if 2147483648 < file.len() {
+    if FILE_LIMIT < file.len() {
         clear_behind(table, 0);
         return rejected(Refusal::FileSize);
     }

@@ -1,5 +1,5 @@
 // The root's object header of a plain file: where it lies, and with which widths it is read, stands
-// in the file's own superblock (parser.rs, parse).
+// in the file's own superblock (parser.rs, parse, but for its test of the file's length).
 use data_object_words::header_words;
 use records::Refusal;
 use row::clear_behind;

@@ -4,6 +4,9 @@ use records::Refusal;
 ghost use mathlib.Core.Path.{_≡_};
 ghost use Rattle.parser.specs.States.{widthAllowed, stateOf, addressValid};
 
+// The bytes of the largest file.
+pub const FILE_LIMIT: usize = 2147483648;
+
 // The widths are in bytes.
 pub struct State {
     pub size_of_lengths: usize,

@@ -17,7 +17,7 @@ use Rattle.parser.specs.StateLaws.{widths-of}
 use Rattle.super_block.specs.declared.SuperBlock.{SuperBlock}
 use Rattle.super_block.specs.declared.SuperBlockRead.{SuperBlockRead}
 use Rattle.super_block.specs.declared.SuperBlockRead.the-variants as blocks
-use Rattle.super_block.specs.SuperBlocks.{addresses, superBlock, superBlockOf}
+use Rattle.super_block.specs.SuperBlocks.{addresses, formatSignature, superBlock, superBlockOf}
 use Rattle.super_block.specs.Answers.{superBlockOut, WidthsRead}
 
 -- the versions that are known are those from 2 to 3
@@ -56,7 +56,7 @@ module _ (s : List ℕ) where
       let version = le s 8 1 in
       let o = le s 9 1 in
       let l = le s 10 1 in
-      let c = stands-check s (eqb (le s 0 8) 0x0A1A0A0D46444889) 25 _ 8 q b (h .1) in
+      let c = stands-check s (eqb (le s 0 8) formatSignature) 25 _ 8 q b (h .1) in
       let d = stands-check s (eqb version 2 || eqb version 3) 26 _ 9 q b (c .1 .1) in
       let e = stands-check s (widthAllowed o) 1 _ 10 q b (d .1 .1) in
       let f = stands-check s (widthAllowed l) 1 _ 11 q b (e .1 .1) in

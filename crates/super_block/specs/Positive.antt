@@ -10,7 +10,7 @@ use Rattle.format.specs.Bytes.{le}
 use Rattle.format.specs.Format.{Format, done, number, Out, refused, read, pick, check}
 use Rattle.format.specs.Laws.{never}
 use Rattle.parser.specs.States.{fileLimit, widthAllowed}
-use Rattle.super_block.specs.SuperBlocks.{addresses, superBlock, superBlockOf}
+use Rattle.super_block.specs.SuperBlocks.{addresses, formatSignature, superBlock, superBlockOf}
 
 -- one refusal is no other
 refusal : {A : Type 0} {m n : ℕ} → _≡_ {A = Out A} (refused m) (refused n) → m ≡ n
@@ -51,7 +51,7 @@ module _ (s : List ℕ) where
       block : read s superBlock 0 ≡ refused 0 → ⊥
       block =
           number-positive 8 _ 0 (λ signature q.
-          check-positive (eqb signature 0x0A1A0A0D46444889) 25 _ q (λ e. omega arith) (
+          check-positive (eqb signature formatSignature) 25 _ q (λ e. omega arith) (
           number-positive 1 _ q (λ version q.
           check-positive (eqb version 2 || eqb version 3) 26 _ q (λ e. omega arith) (
           number-positive 1 _ q (λ offsets q.

@@ -26,11 +26,15 @@ addresses size-of-offsets size-of-lengths =
       «root_group_object_header_address» = root-group-object-header-address;
     })))))))
 
--- the signature, the bytes 89 48 44 46 0D 0A 1A 0A; version 2 or 3; two widths; the flags may have any value
+-- the bytes 89 48 44 46 0D 0A 1A 0A
+abbrev pub formatSignature : ℕ
+formatSignature = 0x0A1A0A0D46444889
+
+-- the signature; version 2 or 3; two widths; the flags may have any value
 unfoldable pub superBlock : Format SuperBlock
 superBlock =
     number 8 (λ format-signature.
-    check (eqb format-signature 0x0A1A0A0D46444889) 25 (
+    check (eqb format-signature formatSignature) 25 (
     number 1 (λ version-number.
     check (eqb version-number 2 || eqb version-number 3) 26 (
     number 1 (λ size-of-offsets.

@@ -6,6 +6,7 @@ use helpers::le_u8;
 use helpers::le_u32;
 use helpers::le_u64;
 use helpers::varint;
+use parser::FILE_LIMIT;
 use parser::width_allowed;
 use records::Refusal;
 ghost use mathlib.Core.Path.{_≡_};
@@ -71,7 +72,7 @@ pub fn super_block(file: &[u8]) -> SuperBlockRead
     ensures { λ r. ⌜ superBlockOut r ≡ superBlockOf (now (file .entry)) ⌝ }
     ensures { λ r. ⌜ WidthsRead r ⌝ }
 {
-    if 2147483648 < file.len() {
+    if FILE_LIMIT < file.len() {
         return SuperBlockRead::Refused(Refusal::FileSize);
     }
     let ReadU64::Value(signature, at) = le_u64(file, 0) else {

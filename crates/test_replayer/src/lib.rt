@@ -72,19 +72,19 @@ fn lists(input: &[u8], expected: &[u8]) -> bool
 }
 
 // Whether the header of a file has the listing that is expected.
-fn lists_header(file: &[u8], by_hand: Lead, expected: &[u8]) -> bool
-    ensures { λ r. ⌜ ListsHeader (now (expected .entry)) (now (file .entry)) «by_hand» r ⌝ }
+fn lists_header(file: &[u8], lead: Lead, expected: &[u8]) -> bool
+    ensures { λ r. ⌜ ListsHeader (now (expected .entry)) (now (file .entry)) lead r ⌝ }
 {
     let mut out = [0u8; 98304];
-    let count = list_header(
+    let n = list_header(
         file,
-        by_hand.position,
-        by_hand.offsets as u64,
-        by_hand.lengths as u64,
-        by_hand.end_of_file,
+        lead.position,
+        lead.offsets as u64,
+        lead.lengths as u64,
+        lead.end_of_file,
         &mut out,
     );
-    check::same(&out[..count], expected)
+    check::same(&out[..n], expected)
 }
 
 // Whether the header of a file, decoded into a table of 64 rows, has the report that is expected.
