@@ -1,4 +1,5 @@
-//! The port and the Rust on the same inputs, by one driver.
+//! The port and the Rust on the same inputs, by one driver. The Rust is the mended copy, which reads
+//! what the port reads, so that both do the same work.
 //!
 //!     bench make DIRECTORY [FILE...]   writes the inputs: made ones, real files, and their headers
 //!     bench SIDE INPUT TIMES           decodes an input so many times; SIDE is port or rust
@@ -14,7 +15,8 @@ use sides::input::{Input, put};
 use sides::plain::SIGNATURE;
 use sides::port::{Outcome as PortOutcome, Port};
 use sides::real;
-use sides::rust::{self, Outcome, rust_answer, rust_data_object, rust_parses, rust_super_block};
+use sides::rust::mended::{rust_answer, rust_data_object, rust_parses, rust_super_block};
+use sides::rust::{self, Outcome};
 
 const LEVELS: usize = 25;
 const ENTRIES: usize = 4096;

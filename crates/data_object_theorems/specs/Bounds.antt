@@ -19,7 +19,7 @@ use Rattle.grammar.specs.Each.{All, reading-each}
 use Rattle.ohdr_dataspace.specs.DataSpaces.{dataSpace}
 use Rattle.ohdr_dataspace.specs.Bounds.{Bounded, bounded}
 use Rattle.ohdr_attribute.specs.declared.AttributeFields.{AttributeFields}
-use Rattle.ohdr_attribute.specs.Attributes.{attributeFields, namePadding, padding, attribute, spaceValue, typeSpaceValue}
+use Rattle.ohdr_attribute.specs.Attributes.{attributeFields, padding, attribute, spaceValue, typeSpaceValue}
 use Rattle.ohdr_attribute.specs.Without.{With, Without, with-or-without}
 use Rattle.ohdr_datatype.specs.DataTypes.{dataType, typeLevels}
 use Rattle.ohdr_entry.specs.Entries.{body, plainBody, attributeBody}
@@ -45,8 +45,8 @@ module _ (file : List ℕ) (s : State) where
     pub from : ℕ
     pub fields-stand : Stands file attributeFields b from fields
     pub end : ℕ
-    pub space : Spaced (fields .version) (from + fields .«name_size» + namePadding (fields .version) (fields .«name_size»))
-        ⊎ Without file (fields .version) s (from + fields .«name_size» + namePadding (fields .version) (fields .«name_size»)) end a
+    pub space : Spaced (fields .version) (from + fields .«name_size» + padding (fields .version) (fields .«name_size»))
+        ⊎ Without file (fields .version) s (from + fields .«name_size» + padding (fields .version) (fields .«name_size»)) end a
 
   -- of what is kept of a message with its body at b, every dataspace is bounded
   abbrev pub BoundedKept : ℕ → Kept → Type 0

@@ -1,5 +1,5 @@
 -- Numbers, names and texts in a file, which is a list of bytes. Assumes nothing: these are definitions.
-use Prim.Native.Nat.{ℕ, zero, suc, _+_, _-_, _*_, _≤_, _<_}
+use Prim.Native.Nat.{ℕ, zero, suc, _+_, _-_, _*_, _%_, _≤_, _<_}
 use mathlib.Core.Path.{_≡_}
 use mathlib.Core.Logic.{_⊎_}
 use mathlib.Core.Bool.{true, false}
@@ -35,3 +35,7 @@ nameLength s p (suc limit) = elim (eqb (getD s p 0) 0) [ true ↦ zero | false �
 unfoldable pub textLength : List ℕ → ℕ → ℕ → ℕ
 textLength s p zero = zero
 textLength s p (suc n) = elim (eqb (getD s (p + n) 0) 0) [ true ↦ textLength s p n | false ↦ suc n ]
+
+-- how many bytes make n bytes a multiple of 8
+abbrev pub toMultipleOf8 : ℕ → ℕ
+toMultipleOf8 n = (8 - n % 8) % 8

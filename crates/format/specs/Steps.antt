@@ -1,11 +1,12 @@
 -- Reading one field after another: the laws that the proofs of the readers chain. Assumes nothing.
 use Prim.Native.Nat.{ℕ, suc, _+_, _-_, _<_}
-use mathlib.Core.Path.{_≡_, refl, ap}
+use mathlib.Core.Path.{_≡_, refl, ap, _∙_}
 use mathlib.Core.Bool.{Bool, true, false}
 use mathlib.Core.List.{List}
 use native.Mathlib.Omega.{arith}
 use lib.ListN.{length}
 use lib.Dec.{leb}
+use borrow.Author.Tests.{lt-leb, leb-false}
 use Rattle.format.specs.Bytes.{le, nameLength, textLength}
 use Rattle.format.specs.Format.{Format, done, refuse, number, skip, bytes, name, text, here, there, attempt, Out, found, refused, nameEnds, read, bind, times, pick, nothing}
 
@@ -31,6 +32,12 @@ tested s k r r′ e false = refl
 picked : {A : Type 0} (t : Bool) (r : Out A) → elim t [ true ↦ r | false ↦ refused 3 ] ≡ pick t r (refused 3)
 picked true r = refl
 picked false r = refl
+
+-- of two tests the second fails where the first does
+twice : {A : Type 0} (r r′ : Out A) (t u : Bool) → _≡_ {A = Out A} r (elim u [ true ↦ r′ | false ↦ refused 3 ]) → (t ≡ false → u ≡ false)
+    → _≡_ {A = Out A} (elim t [ true ↦ r | false ↦ refused 3 ]) (elim u [ true ↦ r′ | false ↦ refused 3 ])
+twice r r′ true u e f = e
+twice r r′ false u e f = rw (f refl)
 
 module _ (s : List ℕ) where
   pub read-done : {A : Type 0} (x : A) (p : ℕ) → read s (done x) p ≡ found x p
@@ -103,6 +110,21 @@ module _ (s : List ℕ) where
           → elim r [ found b m ↦ read s (bind (f b) k) m | refused n ↦ read s (bind G k) p ] ≡ after s k (elim r [ found b m ↦ read s (f b) m | refused n ↦ read s G p ])
       go (found b m) e d = e b m
       go (refused n) e d = d
+
+  -- a number of which nothing is used is bytes that are passed over; so are such bytes and more of them
+  pub read-unused : {A : Type 0} (w : ℕ) (F : Format A) (p : ℕ) → read s (number w (λ _. F)) p ≡ read s (skip w F) p
+  unfolding read
+  read-unused w F p = refl
+
+  pub read-passed : {A : Type 0} (m n : ℕ) (F G : Format A) → ((q : ℕ) → read s F q ≡ read s (skip n G) q) → (p : ℕ) → read s (skip m F) p ≡ read s (skip (m + n) G) p
+  unfolding read
+  read-passed {A} m n F G e p =
+      let d : p + m + n ≡ p + (m + n) = omega arith in
+      twice (read s F (p + m)) (read s G (p + (m + n))) (leb (p + m) (length s)) (leb (p + (m + n)) (length s))
+      (e (p + m) ∙ ap room d) (λ t. lt-leb (p + (m + n)) (length s) (omega (arith, leb-false (p + m) (length s) t)))
+    where
+      room : ℕ → Out A
+      room q = elim (leb q (length s)) [ true ↦ read s G q | false ↦ refused 3 ]
 
   -- a field by itself: by whether the file has its bytes
   pub number-room : (w p : ℕ) → read s (number w done) p ≡ pick (leb (p + w) (length s)) (found (le s p w) (p + w)) (refused 3)

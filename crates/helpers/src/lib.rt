@@ -5,7 +5,7 @@ ghost use mathlib.Core.Path.{_≡_};
 ghost use Prim.Native.Nat.{_+_, _≤_, _<_};
 ghost use lib.ListN.{length};
 ghost use lib.Dec.{leb};
-ghost use Rattle.format.specs.Bytes.{le, nameLength, textLength};
+ghost use Rattle.format.specs.Bytes.{le, nameLength, textLength, toMultipleOf8};
 ghost use Rattle.format.specs.Format.{done, number, skip, name, text, nothing, read, signature as signed};
 ghost use Rattle.records.specs.Refusals.{refusalNumber};
 ghost use Rattle.helpers.specs.Answers.{u8Out, u16Out, u32Out, u64Out, varintOut, takenOut, placeOut, lengthOut, sized};
@@ -212,6 +212,13 @@ pub fn take(file: &[u8], at: usize, count: usize) -> Taken
     } else {
         Taken::Short
     }
+}
+
+// How many bytes make `n` bytes a multiple of 8.
+pub fn to_multiple_of_8(n: usize) -> usize
+    ensures { λ r. ⌜ r ≡ toMultipleOf8 n ⌝ }
+{
+    (8 - n % 8) % 8
 }
 
 // How many bytes from `at` on are not zero, at most `limit`. The file's end stops it too.

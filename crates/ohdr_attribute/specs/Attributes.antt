@@ -1,7 +1,8 @@
 -- IV.A.2.m, the attribute message, versions 1 and 3. Assumes nothing: these are definitions.
-use Prim.Native.Nat.{ℕ, _-_, _*_, _%_}
+use Prim.Native.Nat.{ℕ, _-_, _*_}
 use mathlib.Core.Bool.{_&&_, _||_}
 use lib.Dec.{eqb, leb, ltb}
+use Rattle.format.specs.Bytes.{toMultipleOf8}
 use Rattle.format.specs.Format.{Format, done, number, skip, text, here, attempt, bind, check, pick, nothing}
 use Rattle.records.specs.declared.OptionPart.{OptionPart}
 use Rattle.records.specs.declared.OptionPart.the-variants as parts
@@ -13,13 +14,9 @@ use Rattle.ohdr_attribute.specs.declared.AttributeFields.{AttributeField
 use Rattle.ohdr_datatype.specs.DataTypes.{classOf, dataType, typeLevels}
 use Rattle.ohdr_dataspace.specs.DataSpaces.{dataSpace, elements}
 
--- a name of n bytes is padded in version 1, and only where n is below 8: by (8 − n) mod 8 bytes
-abbrev pub namePadding : ℕ → ℕ → ℕ
-namePadding version n = pick (eqb version 1) ((8 - n) % 8) 0
-
--- a type or a space of n bytes is padded to a multiple of 8 in version 1
+-- a name, a type or a space of n bytes is padded to a multiple of 8 in version 1
 abbrev pub padding : ℕ → ℕ → ℕ
-padding version n = pick (eqb version 1) ((8 - n % 8) % 8) 0
+padding version n = pick (eqb version 1) (toMultipleOf8 n) 0
 
 -- a format and its padding, and what follows, which is given its value
 abbrev pub padded : {A B : Type 0} → ℕ → Format A → (A → Format B) → Format B
@@ -87,5 +84,5 @@ attribute s =
     bind attributeFields (λ f.
     here (λ from.
     text (f .«name_size») (λ length.
-    skip (namePadding (f .version) (f .«name_size»)) (
+    skip (padding (f .version) (f .«name_size»)) (
     nameAndValue (f .version) s (record { position = from; length = length })))))

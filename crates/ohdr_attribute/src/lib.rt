@@ -7,6 +7,7 @@ use helpers::Taken;
 use helpers::le_u8;
 use helpers::le_u16;
 use helpers::take;
+use helpers::to_multiple_of_8;
 use helpers::trim_end;
 use ohdr_dataspace::ElementCount;
 use ohdr_dataspace::elements;
@@ -28,7 +29,7 @@ ghost use Rattle.helpers.specs.Answers.{takenOut};
 ghost use Rattle.parser.specs.States.{Widths};
 ghost use Rattle.ohdr_dataspace.specs.DataSpaces.{elements as elementsOf};
 ghost use Rattle.ohdr_dataspace.specs.Answers.{countOf};
-ghost use Rattle.ohdr_attribute.specs.Attributes.{namePadding, padding, textValue, listValue, otherValue, value, spaceValue, valueless, nameAndValue, encoding, attributeFields, attribute};
+ghost use Rattle.ohdr_attribute.specs.Attributes.{padding, textValue, listValue, otherValue, value, spaceValue, valueless, nameAndValue, encoding, attributeFields, attribute};
 ghost use Rattle.ohdr_attribute.specs.Answers.{fieldsOut, valueOut, attributeOut};
 
 // What stands before the name.
@@ -53,27 +54,14 @@ pub enum AttributeRead {
     Refused(Refusal),
 }
 
-// How many bytes follow a name of `n` bytes.
-fn name_padding(version: u8, n: usize) -> usize
-    ensures { λ r. ⌜ r ≡ namePadding version n ⌝ }
-{
-    if version != 1 {
-        return 0;
-    }
-    if n < 8 {
-        return (8 - n) % 8;
-    }
-    0
-}
-
-// How many bytes follow a type or a space of `n` bytes.
+// How many bytes follow a name, a type or a space of `n` bytes.
 fn eight_padding(version: u8, n: usize) -> usize
     ensures { λ r. ⌜ r ≡ padding version n ⌝ }
 {
     if version != 1 {
         return 0;
     }
-    (8 - n % 8) % 8
+    to_multiple_of_8(n)
 }
 
 // The encoding byte of version 3.
@@ -253,7 +241,8 @@ pub fn message_attribute(file: &[u8], at: usize, state: State) -> AttributeRead
             let ReadLength::Value(length, padding_at) = trim_end(file, name_at, name_size) else {
                 return AttributeRead::Refused(Refusal::Short);
             };
-            let Taken::At(type_at) = take(file, padding_at, name_padding(version, name_size)) else {
+            let Taken::At(type_at) = take(file, padding_at, eight_padding(version, name_size))
+            else {
                 return AttributeRead::Refused(Refusal::Short);
             };
             let name = Part {

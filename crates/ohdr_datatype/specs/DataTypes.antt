@@ -1,7 +1,8 @@
 -- IV.A.2.d, the datatype message, versions 1 and 3. Assumes nothing: these are definitions.
-use Prim.Native.Nat.{ℕ, zero, suc, _+_, _-_, _/_, _%_}
+use Prim.Native.Nat.{ℕ, zero, suc, _+_, _/_, _%_}
 use mathlib.Core.Bool.{Bool, _&&_, _||_}
 use lib.Dec.{eqb, ltb}
+use Rattle.format.specs.Bytes.{toMultipleOf8}
 use Rattle.format.specs.Format.{Format, done, refuse, number, skip, name, bind, times, check, pick, nothing}
 use Rattle.records.specs.declared.OptionU32.{OptionU32}
 use Rattle.records.specs.declared.OptionU32.the-variants as options32
@@ -98,17 +99,24 @@ member3 size =
     skip 1 (
     pick (ltb 0 size) (number 1 (λ byte-offset-of-member. nothing)) nothing))
 
--- a compound's member before its type, version 1: with n the bytes of name and closing byte, (7 − n) mod 8 bytes follow them.
--- For every n that is 7 − (n mod 8). Then a word, a word that is 0, and 27 bytes: not the standard's places (docs/DIFFERENCES.md, 37).
+-- a compound's member before its type, version 1: name and closing byte, padded together to a multiple of 8; the bytes passed over behind the
+-- dimensionality are reserved. Only a scalar member is read.
 unfoldable pub member1 : Format (Unit {0})
 member1 =
     name 255 (λ length.
     skip 1 (
-    skip (7 - (length + 1) % 8) (
-    number 4 (λ offset-word.
-    number 4 (λ dimension-word.
-    check (eqb dimension-word 0) 11 (
-    skip 27 nothing))))))
+    skip (toMultipleOf8 (length + 1)) (
+    number 4 (λ byte-offset-of-member.
+    number 1 (λ dimensionality.
+    check (eqb dimensionality 0) 11 (
+    skip 3 (
+    number 4 (λ dimension-permutation.
+    skip 4 (
+    number 4 (λ dimension-1-size.
+    number 4 (λ dimension-2-size.
+    number 4 (λ dimension-3-size.
+    number 4 (λ dimension-4-size.
+    nothing)))))))))))))
 
 unfoldable pub memberFields : ℕ → ℕ → Format (Unit {0})
 memberFields version size = pick (eqb version 3) (member3 size) member1

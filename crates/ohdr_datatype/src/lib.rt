@@ -11,6 +11,7 @@ use helpers::le_u24;
 use helpers::le_u32;
 use helpers::take;
 use helpers::take_till;
+use helpers::to_multiple_of_8;
 use records::DataFormat;
 use records::DataType;
 use records::OptionDataFormat;
@@ -268,19 +269,19 @@ fn member_1(file: &[u8], at: usize) -> Place
     let Taken::At(padding_at) = take(file, closing_at, 1) else {
         return Place::Refused(Refusal::Short);
     };
-    let Taken::At(offset_at) = take(file, padding_at, 7 - (length % 8 + 1) % 8) else {
+    let Taken::At(offset_at) = take(file, padding_at, to_multiple_of_8(length % 8 + 1)) else {
         return Place::Refused(Refusal::Short);
     };
-    let ReadU32::Value(_, dimension_at) = le_u32(file, offset_at) else {
+    let ReadU32::Value(_, dimensionality_at) = le_u32(file, offset_at) else {
         return Place::Refused(Refusal::Short);
     };
-    let ReadU32::Value(dimension, rest_at) = le_u32(file, dimension_at) else {
+    let ReadU8::Value(dimensionality, unused_at) = le_u8(file, dimensionality_at) else {
         return Place::Refused(Refusal::Short);
     };
-    if dimension != 0 {
+    if dimensionality != 0 {
         return Place::Refused(Refusal::DataType);
     }
-    let Taken::At(next) = take(file, rest_at, 27) else {
+    let Taken::At(next) = take(file, unused_at, 27) else {
         return Place::Refused(Refusal::Short);
     };
     Place::At(next)

@@ -5,10 +5,11 @@ use mathlib.Core.Bool.{not, _||_}
 use mathlib.Core.List.{List, [], _∷_}
 use lib.Dec.{eqb}
 use Rattle.format.specs.Bits.{bit}
+use Rattle.format.specs.Bytes.{toMultipleOf8}
 use Rattle.format.specs.Format.{Format, done, refuse, number, here, bind, pick}
 use Rattle.standard.specs.Fields.{Bytes, only, raw}
 use Rattle.standard.specs.Versions.{byVersion, marked}
-use Rattle.standard.specs.Datatypes.{toMultipleOf8, Datatype, headerOf, datatypeMessage}
+use Rattle.standard.specs.Datatypes.{Datatype, headerOf, datatypeMessage}
 use Rattle.standard.specs.Dataspaces.{Dataspace, version-1, version-2, dataspaceMessage}
 
 -- Layout: Attribute Message (Version 1), up to the name

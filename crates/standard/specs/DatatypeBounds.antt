@@ -14,7 +14,8 @@ use Rattle.format.specs.Format.{Format, done, number, Stands, bind}
 use Rattle.format.specs.Standing.{stands-check}
 use Rattle.standard.specs.Fields.{Bytes, only}
 use Rattle.standard.specs.Tie.{Tied, tied-bind, tied-pick}
-use Rattle.standard.specs.Datatypes.{terminated, member1, member3, Datatype, members1, members3, compound, properties, DatatypeHeader, class, version, datatypeOf, datatypeMessage, no-members}
+use Rattle.standard.specs.Versions.{marked}
+use Rattle.standard.specs.Datatypes.{terminated, member1, member3, member, Datatype, membersOf, compound, properties, DatatypeHeader, class, version, datatypeOf, datatypeMessage, no-members}
 
 -- wherever F stands, G stands with the same value
 abbrev Wider : {A : Type 0} → Format A → Format A → Type 0
@@ -52,20 +53,19 @@ module _ (longest longer : ℕ) (more : longest ≤ longer) where
   unfolding member3
   member3-wider size = wider-then _ terminated-wider
 
-  module _ (T U : Format Datatype) (types : Wider T U) where
-    members1-wider : (n : ℕ) → Wider (members1 longest T n) (members1 longer U n)
-    unfolding members1
-    members1-wider zero = wider-same (done no-members)
-    members1-wider (suc n) = wider-bind member1-wider (λ m. wider-bind types (λ t. wider-then _ (members1-wider n)))
+  member-wider : (h : DatatypeHeader) → Wider (member longest h) (member longer h)
+  unfolding member marked
+  member-wider h = tied-pick (eqb (version h) 1) (λ _. wider-then _ member1-wider) (λ _. wider-then _ (member3-wider (h .size)))
 
-    members3-wider : (size n : ℕ) → Wider (members3 longest size T n) (members3 longer size U n)
-    unfolding members3
-    members3-wider size zero = wider-same (done no-members)
-    members3-wider size (suc n) = wider-bind (member3-wider size) (λ m. wider-bind types (λ t. wider-then _ (members3-wider size n)))
+  module _ (T U : Format Datatype) (types : Wider T U) where
+    members-wider : (h : DatatypeHeader) (n : ℕ) → Wider (membersOf longest h T n) (membersOf longer h U n)
+    unfolding membersOf
+    members-wider h zero = wider-same (done no-members)
+    members-wider h (suc n) = wider-bind (member-wider h) (λ m. wider-bind types (λ t. wider-then _ (members-wider h n)))
 
     compound-wider : (h : DatatypeHeader) → Wider (compound longest T h) (compound longer U h)
     unfolding compound
-    compound-wider h = tied-pick (eqb (version h) 1) (λ _. members1-wider _) (λ _. members3-wider (h .size) _)
+    compound-wider h = members-wider h _
 
     properties-wider : (h : DatatypeHeader) → Wider (properties longest T h) (properties longer U h)
     unfolding properties

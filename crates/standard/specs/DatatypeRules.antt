@@ -2,7 +2,7 @@
 -- definitions.
 use Prim.Native.Nat.{ℕ, _+_, _*_, _/_, _%_, _^_, _≤_}
 use mathlib.Core.Path.{_≡_}
-use Rattle.standard.specs.Datatypes.{DatatypeHeader, class, version, FixedPoint, Member1, Datatype, datatype, headerOf, Properties, fixed-point, floating-point, no-properties, members, parent-type, Members, no-members, version-1, version-3}
+use Rattle.standard.specs.Datatypes.{DatatypeHeader, class, version, FixedPoint, Member1, Member, version-1, version-3, Datatype, datatype, headerOf, Properties, fixed-point, floating-point, no-properties, members, parent-type, Members, no-members, more-members}
 
 -- as many bits of a number as are said, from the given one on
 abbrev pub bits : ℕ → ℕ → ℕ → ℕ
@@ -60,18 +60,26 @@ ValidParentType h no-properties = Unit {0}
 ValidParentType h (members m) = Unit {0}
 ValidParentType h (parent-type t) = bits (h .class-bit-field) 0 4 ≡ 1 → NativeUchar t
 
--- each member lies within the datatype element, which has this size
-abbrev pub InElement : ℕ → Members → Type 0
-InElement size no-members = Unit {0}
-InElement size (version-1 m t rest) = (m .byte-offset-of-member + headerOf t .size ≤ size) × InElement size rest
-InElement size (version-3 m t rest) = (m .byte-offset-of-member + headerOf t .size ≤ size) × InElement size rest
+-- a rule on each member and its type
+abbrev pub EveryMember : (Member → Datatype → Type 0) → Members → Type 0
+EveryMember P no-members = Unit {0}
+EveryMember P (more-members m t rest) = P m t × EveryMember P rest
 
+-- and on those of a compound with this header
+abbrev pub OfMembers : (DatatypeHeader → Member → Datatype → Type 0) → DatatypeHeader → Properties → Type 0
+OfMembers P h (fixed-point f) = Unit {0}
+OfMembers P h (floating-point f) = Unit {0}
+OfMembers P h no-properties = Unit {0}
+OfMembers P h (members m) = EveryMember (P h) m
+OfMembers P h (parent-type t) = Unit {0}
+
+abbrev pub byteOffsetOf : Member → ℕ
+byteOffsetOf (version-1 m) = m .byte-offset-of-member
+byteOffsetOf (version-3 m) = m .byte-offset-of-member
+
+-- each member lies within the datatype element
 abbrev pub ValidMembers : DatatypeHeader → Properties → Type 0
-ValidMembers h (fixed-point f) = Unit {0}
-ValidMembers h (floating-point f) = Unit {0}
-ValidMembers h no-properties = Unit {0}
-ValidMembers h (members m) = InElement (h .size) m
-ValidMembers h (parent-type t) = Unit {0}
+ValidMembers = OfMembers (λ h m t. byteOffsetOf m + headerOf t .size ≤ h .size)
 
 -- a member of version 1: padding of its name, reserved bytes and permutation are zero
 pub record ValidMember1 (m : Member1) : Type 0 where
@@ -80,17 +88,12 @@ pub record ValidMember1 (m : Member1) : Type 0 where
   pub dimension-permutation : m .dimension-permutation ≡ 0
   pub reserved-after-permutation : m .reserved-after-permutation ≡ 0
 
-abbrev pub ValidMember1s : Members → Type 0
-ValidMember1s no-members = Unit {0}
-ValidMember1s (version-1 m t rest) = ValidMember1 m × ValidMember1s rest
-ValidMember1s (version-3 m t rest) = ValidMember1s rest
+abbrev pub InVersion1 : (Member1 → Type 0) → Member → Type 0
+InVersion1 P (version-1 m) = P m
+InVersion1 P (version-3 m) = Unit {0}
 
 abbrev pub ValidMembers1 : DatatypeHeader → Properties → Type 0
-ValidMembers1 h (fixed-point f) = Unit {0}
-ValidMembers1 h (floating-point f) = Unit {0}
-ValidMembers1 h no-properties = Unit {0}
-ValidMembers1 h (members m) = ValidMember1s m
-ValidMembers1 h (parent-type t) = Unit {0}
+ValidMembers1 = OfMembers (λ h m t. InVersion1 ValidMember1 m)
 
 -- P holds of the header and the properties of a datatype message and of all datatype messages inside it
 abbrev mutual
@@ -106,8 +109,7 @@ abbrev mutual
 
   pub EachMember : (DatatypeHeader → Properties → Type 0) → Members → Type 0
   EachMember P no-members = Unit {0}
-  EachMember P (version-1 m t rest) = Each P t × EachMember P rest
-  EachMember P (version-3 m t rest) = Each P t × EachMember P rest
+  EachMember P (more-members m t rest) = Each P t × EachMember P rest
 
 -- what is asked of a datatype message
 pub record ValidDatatype (t : Datatype) : Type 0 where

@@ -1,11 +1,13 @@
 -- IV.A.2.d, The Datatype Message: versions 1 and 3 of the classes fixed-point 0, floating-point 1, string 3, compound 6, reference 7
 -- and variable-length 9. Assumes nothing: these are definitions.
 -- Versions 2 and 4 and the other classes have tables too; nothing that is read is compared with them.
-use Prim.Native.Nat.{ℕ, zero, suc, _+_, _-_, _/_, _%_}
+use Prim.Native.Nat.{ℕ, zero, suc, _+_, _/_, _%_}
 use mathlib.Core.Bool.{_||_}
 use lib.Dec.{eqb, ltb}
+use Rattle.format.specs.Bytes.{toMultipleOf8}
 use Rattle.format.specs.Format.{Format, done, refuse, number, name, here, bind, pick}
 use Rattle.standard.specs.Fields.{Bytes, only}
+use Rattle.standard.specs.Versions.{marked}
 
 -- Layout: Datatype Message, up to its properties. The three bytes of the class bit field are one number.
 pub record DatatypeHeader : Type 0 where
@@ -84,10 +86,6 @@ terminated longest =
     only (eqb terminator 0) (
     done {A = Bytes} (record { position = position; length = length })))))
 
--- how many bytes make n bytes a multiple of 8
-abbrev pub toMultipleOf8 : ℕ → ℕ
-toMultipleOf8 n = (8 - n % 8) % 8
-
 -- Layout: Compound Properties Description for Datatype Version 1, a member up to its type
 pub record Member1 : Type 0 where
   pub name : Bytes
@@ -144,6 +142,15 @@ member3 longest size =
     number (offsetBytes size) (λ byte-offset-of-member.
     done {A = Member3} (record { name = name; byte-offset-of-member = byte-offset-of-member })))
 
+-- a member up to its type, in either version
+pub data Member : Type 0 where
+  version-1 : Member1 → Member
+  version-3 : Member3 → Member
+
+-- its table is that of the compound's own version
+unfoldable pub member : ℕ → DatatypeHeader → Format Member
+member longest h = pick (eqb (version h) 1) (marked version-1 (member1 longest)) (marked version-3 (member3 longest (h .size)))
+
 mutual
   -- Layout: Datatype Message
   pub data Datatype : Type 0 where
@@ -160,8 +167,7 @@ mutual
   -- a compound's members, each with its member type message, one after another
   pub data Members : Type 0 where
     no-members : Members
-    version-1 : Member1 → Datatype → Members → Members
-    version-3 : Member3 → Datatype → Members → Members
+    more-members : Member → Datatype → Members → Members
 
 abbrev pub headerOf : Datatype → DatatypeHeader
 headerOf (datatype h p) = h
@@ -171,24 +177,16 @@ abbrev pub memberCount : DatatypeHeader → ℕ
 memberCount h = h .class-bit-field % 65536
 
 -- n members, where T is the format of the member type messages
-unfoldable pub members1 : ℕ → Format Datatype → ℕ → Format Members
-members1 longest T zero = done no-members
-members1 longest T (suc n) =
-    bind (member1 longest) (λ member.
+unfoldable pub membersOf : ℕ → DatatypeHeader → Format Datatype → ℕ → Format Members
+membersOf longest h T zero = done no-members
+membersOf longest h T (suc n) =
+    bind (member longest h) (λ member.
     bind T (λ member-type.
-    bind (members1 longest T n) (λ rest.
-    done (version-1 member member-type rest))))
-
-unfoldable pub members3 : ℕ → ℕ → Format Datatype → ℕ → Format Members
-members3 longest size T zero = done no-members
-members3 longest size T (suc n) =
-    bind (member3 longest size) (λ member.
-    bind T (λ member-type.
-    bind (members3 longest size T n) (λ rest.
-    done (version-3 member member-type rest))))
+    bind (membersOf longest h T n) (λ rest.
+    done (more-members member member-type rest))))
 
 unfoldable pub compound : ℕ → Format Datatype → DatatypeHeader → Format Members
-compound longest T h = pick (eqb (version h) 1) (members1 longest T (memberCount h)) (members3 longest (h .size) T (memberCount h))
+compound longest T h = membersOf longest h T (memberCount h)
 
 -- the properties by class, where T is the format of the datatype messages inside
 unfoldable pub properties : ℕ → Format Datatype → DatatypeHeader → Format Properties

@@ -26,7 +26,7 @@ use Rattle.standard.specs.Datatypes.{class, Datatype, headerOf, datatypeMessage
 use Rattle.standard.specs.Dataspaces.{Dataspace, version-1, version-2, dataspaceMessage}
 use Rattle.standard.specs.Attributes.{sized, Described, described, product, elements, rawSize}
 use Rattle.standard.specs.DatatypeRules.{Each}
-use Rattle.standard_datatype.specs.Same.{MembersOfVersion3, SameType}
+use Rattle.standard_datatype.specs.Same.{ScalarMembers, SameType}
 use Rattle.standard_datatype.specs.Differences.{TypeDiffers}
 use Rattle.standard_datatype.specs.Ties.{datatype-tied}
 use Rattle.standard_messages.specs.Dataspaces.{SameDataspace, dataspace-tied}
@@ -161,7 +161,7 @@ module _ (s : List ℕ) (state : State) (longest : ℕ) (wide : 4095 ≤ longest
       pub stands : Stands s theDescribed p upto contents
       pub inside : upto + rawSize contents ≤ length s
       pub end : upto + rawSize contents ≡ q
-      pub members : Each MembersOfVersion3 (contents .datatype)
+      pub members : Each ScalarMembers (contents .datatype)
       pub value : SameValue s v (class (headerOf (contents .datatype))) (headerOf (contents .datatype) .size) (record { position = upto; length = rawSize contents })
 
     abbrev Contents : ℕ → ℕ → OptionPart → Type 0

@@ -5,12 +5,13 @@ use mathlib.Core.Path.{_≡_}
 use mathlib.Core.Bool.{true, _||_}
 use mathlib.Core.List.{List, []}
 use Rattle.format.specs.Bits.{bit}
+use Rattle.format.specs.Bytes.{toMultipleOf8}
 use Rattle.format.specs.Format.{Stands}
 use Rattle.records.specs.declared.OptionPart.{OptionPart}
 use Rattle.parser.specs.declared.State.{State}
 use Rattle.ohdr_datatype.specs.DataTypes.{typeLevels}
 use Rattle.ohdr_attribute.specs.Attributes.{typeSpaceValue}
-use Rattle.standard.specs.Datatypes.{toMultipleOf8, class, Datatype, headerOf, datatypeMessage}
+use Rattle.standard.specs.Datatypes.{class, Datatype, headerOf, datatypeMessage}
 use Rattle.standard.specs.Dataspaces.{Dataspace2, Dataspace, version-2, dataspaceMessage}
 use Rattle.standard.specs.Attributes.{Sizes1, sizes1, Sizes3, sizes3, sized, Described, described, elements, rawSize}
 use Rattle.standard_datatype.specs.Differences.{TypeDiffers}
@@ -28,7 +29,7 @@ module _ (s : List ℕ) (state : State) (longest : ℕ) where
   pub data ContentsDiffer (version : ℕ) (padding : ℕ → ℕ) (datatype-size dataspace-size p : ℕ) : Type 0 where
     -- 56: they have no reading, and the attribute stands without a value
     no-reading : ((q : ℕ) (value : OptionPart) → Stands s (typeSpaceValue version state) p q value → ⊥) → ContentsDiffer version padding datatype-size dataspace-size p
-    -- 34, 35, 37, 38: the datatype differs
+    -- 34, 35: the datatype differs
     in-datatype : TypeDiffers longest s p → ContentsDiffer version padding datatype-size dataspace-size p
     -- 53: the datatype's size is not the one that is written
     other-datatype-size : (m : ℕ) (t : Datatype) → Stands s (datatypeMessage longest typeLevels) p m t → (m ≡ p + datatype-size → ⊥)
@@ -49,8 +50,6 @@ module _ (s : List ℕ) (state : State) (longest : ℕ) where
 
   -- the attribute message at p differs
   pub data AttributeDiffers (p : ℕ) : Type 0 where
-    -- 49: a name of version 1 above 8 bytes that is padded
-    padded-name : (m : ℕ) (x : Sizes1) → Stands s sizes1 p m x → 8 < x .name-size → (toMultipleOf8 (x .name-size) ≡ 0 → ⊥) → AttributeDiffers p
     -- 50: a shared datatype or dataspace
     shared : (m : ℕ) (x : Sizes3) → Stands s sizes3 p m x → (bit (x .flags) 0 || bit (x .flags) 1) ≡ true → AttributeDiffers p
     -- what follows the name differs

@@ -13,7 +13,7 @@ use Rattle.standard.specs.Fields.{Bytes}
 use Rattle.standard.specs.Datatypes.{class, headerOf}
 use Rattle.standard.specs.DatatypeRules.{Each}
 use Rattle.standard.specs.AttributeRules.{NullTerminated}
-use Rattle.standard_datatype.specs.Same.{MembersOfVersion3}
+use Rattle.standard_datatype.specs.Same.{ScalarMembers}
 use Rattle.standard.specs.Attributes.{Sizes1, sizes1, Sizes3, sizes3, Described, Attribute, of-version-1, of-version-3}
 
 -- a part of the file is the bytes of a field, less the zeros at their end
@@ -42,7 +42,7 @@ pub record SameName (s : List ℕ) (name : Part) (field : Bytes) : Type 0 where
 -- name and value; the other fields are not handed out, nor are the members of a compound
 pub record SameFields (s : List ℕ) (a : ours.Attribute) (name-field : Bytes) (contents : Described) (data-field : Bytes) : Type 0 where
   pub name : SameName s (a .name) name-field
-  pub members : Each MembersOfVersion3 (contents .datatype)
+  pub members : Each ScalarMembers (contents .datatype)
   pub value : SameValue s (a .value) (class (headerOf (contents .datatype))) (headerOf (contents .datatype) .size) data-field
 
 abbrev pub SameAttribute : List ℕ → ours.Attribute → Attribute → Type 0

@@ -2,7 +2,6 @@
 use Prim.Native.Nat.{ℕ}
 use mathlib.Core.Path.{_≡_, refl}
 use mathlib.Core.List.{List, [], _∷_, _++_}
-use lib.ListN.{replicate}
 use Rattle.format.specs.Bytes.{le, textLength}
 use Rattle.format.specs.Format.{Out, found, refused, read, bind}
 use Rattle.records.specs.declared.OptionPart.the-variants as parts
@@ -35,12 +34,6 @@ valued position length = record { name = record { position = 9; length = 0 }; va
 abbrev attribute3Of : ℕ → List ℕ → List ℕ
 attribute3Of size space = (3 ∷ 0 ∷ 1 ∷ 0 ∷ 8 ∷ 0 ∷ size ∷ 0 ∷ 0 ∷ 0 ∷ []) ++ (0x13 ∷ 0 ∷ 0 ∷ 0 ∷ 1 ∷ 0 ∷ 0 ∷ 0 ∷ []) ++ space ++ (0x76 ∷ 0x77 ∷ [])
 
--- version 1, a name of 8 bytes and its zero, padded to 16, a string of 1 byte, a dataspace of version 1 without dimensions, and the text `v`
-abbrev paddedName : List ℕ
-paddedName =
-    (1 ∷ 0 ∷ 9 ∷ 0 ∷ 8 ∷ 0 ∷ 8 ∷ 0 ∷ []) ++ replicate 8 0x6E ++ replicate 8 0
-    ++ (0x13 ∷ 0 ∷ 0 ∷ 0 ∷ 1 ∷ 0 ∷ 0 ∷ 0 ∷ []) ++ (1 ∷ 0 ∷ 0 ∷ 0 ∷ 0 ∷ 0 ∷ 0 ∷ 0 ∷ []) ++ (0x76 ∷ [])
-
 -- a file, the standard's data field and end, and what is read here
 pub record Sample : Type 0 where
   pub file : List ℕ
@@ -53,12 +46,6 @@ samples =
     record { file = attribute3Of 6 (2 ∷ 1 ∷ 0 ∷ 0 ∷ 2 ∷ 0 ∷ []); standard = found (record { position = 24; length = 1 }) 25; read-here = found (valued 24 2) 26 }
     -- 27: a null dataspace
     ∷ record { file = attribute3Of 4 (2 ∷ 0 ∷ 0 ∷ 2 ∷ []); standard = found (record { position = 22; length = 0 }) 22; read-here = found (valued 22 1) 23 }
-    -- 49: a name of version 1 of 9 bytes
-    ∷ record {
-      file = paddedName;
-      standard = found (record { position = 40; length = 1 }) 41;
-      read-here = found (record { name = record { position = 8; length = 8 }; value = parts.None }) 17;
-    }
     -- 53: sizes of 0 are written for datatype and dataspace
     ∷ record {
       file = (3 ∷ 0 ∷ 1 ∷ 0 ∷ 0 ∷ 0 ∷ 0 ∷ 0 ∷ 0 ∷ 0 ∷ []) ++ (0x13 ∷ 0 ∷ 0 ∷ 0 ∷ 1 ∷ 0 ∷ 0 ∷ 0 ∷ []) ++ (2 ∷ 0 ∷ 0 ∷ 0 ∷ 0x76 ∷ []);

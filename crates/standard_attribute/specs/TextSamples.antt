@@ -22,17 +22,17 @@ use Rattle.standard_attribute.specs.Values.{text-value}
 abbrev state : State
 state = record { «size_of_lengths» = 2; «size_of_offsets» = 2; «end_of_file_address» = 0 }
 
--- version 1, a name of 15 bytes and its zero, a string of 2 bytes, a dataspace of version 1 without dimensions, and the text `v`
+-- version 1, a name of 8 bytes and its zero, padded to 16, a string of 2 bytes, a dataspace of version 1 without dimensions, and the text `v`
 abbrev file1 : List ℕ
 file1 =
-    (1 ∷ 0 ∷ 16 ∷ 0 ∷ 8 ∷ 0 ∷ 8 ∷ 0 ∷ []) ++ replicate 15 0x6E ++ (0 ∷ [])
+    (1 ∷ 0 ∷ 9 ∷ 0 ∷ 8 ∷ 0 ∷ 8 ∷ 0 ∷ []) ++ replicate 8 0x6E ++ replicate 8 0
     ++ (0x13 ∷ 0 ∷ 0 ∷ 0 ∷ 2 ∷ 0 ∷ 0 ∷ 0 ∷ []) ++ (1 ∷ 0 ∷ 0 ∷ 0 ∷ 0 ∷ 0 ∷ 0 ∷ 0 ∷ []) ++ (0x76 ∷ 0 ∷ [])
 
 abbrev text1 : Attribute
 text1 =
     of-version-1 (record {
-      sizes = record { version = 1; reserved = 0; name-size = 16; datatype-size = 8; dataspace-size = 8 };
-      name = record { position = 8; length = 16 };
+      sizes = record { version = 1; reserved = 0; name-size = 9; datatype-size = 8; dataspace-size = 8 };
+      name = record { position = 8; length = 9 };
       name-padding = 0;
       described = record {
         datatype = datatype (record { class-and-version = 0x13; class-bit-field = 0; size = 2 }) no-properties;
@@ -47,7 +47,6 @@ met1 : TextValue 2 text1
 met1 =
     record {
       name-size = omega arith;
-      name-padding = λ _. refl;
       described = record {
         string = refl;
         some-size = omega arith;
@@ -60,7 +59,7 @@ met1 =
     simple : ElementsDiffer (describedOf text1 .dataspace) → ⊥
     simple = elim [ ]
 
-pub a-text-of-version-1 : ValueStands file1 state 0 42 (record { position = 8; length = 16 }) (record { position = 40; length = 2 })
+pub a-text-of-version-1 : ValueStands file1 state 0 42 (record { position = 8; length = 9 }) (record { position = 40; length = 2 })
 unfolding read bind le many raw byVersion marked datatypeHeader properties datatypeOf datatypeMessage storedSizes dataspace1 dataspace2 dataspaceMessage sizes1 sizes3 sized described product attribute1 attribute3 attributeMessage
 a-text-of-version-1 = text-value file1 state 4095 1 0 42 text1 (sound file1 (attributeMessage 4095 1 2) 0 42 text1 refl) met1
 
@@ -88,7 +87,6 @@ met3 : TextValue 2 text3
 met3 =
     record {
       name-size = omega arith;
-      name-padding = tt;
       described = record {
         string = refl;
         some-size = omega arith;

@@ -11,7 +11,7 @@ use Rattle.parser.specs.declared.State.{State}
 use Rattle.ohdr_attribute.specs.Attributes.{attribute}
 use Rattle.standard.specs.Fields.{Bytes}
 use Rattle.standard.specs.Tie.{Every}
-use Rattle.standard.specs.Datatypes.{toMultipleOf8, class, headerOf}
+use Rattle.standard.specs.Datatypes.{class, headerOf}
 use Rattle.standard.specs.Dataspaces.{Stored, not-stored, stored, Dataspace, version-1, version-2}
 use Rattle.standard.specs.Attributes.{Described, elementSize, Attribute, of-version-1, of-version-3}
 use Rattle.standard_attribute.specs.Differences.{ElementsDiffer}
@@ -67,11 +67,6 @@ abbrev pub dataOf : Attribute → Bytes
 dataOf (of-version-1 x) = x .«data»
 dataOf (of-version-3 x) = x .«data»
 
--- a name of version 1 above 8 bytes is a multiple of 8
-abbrev pub PaddedAlike : Attribute → Type 0
-PaddedAlike (of-version-1 x) = 8 < x .sizes .name-size → toMultipleOf8 (x .sizes .name-size) ≡ 0
-PaddedAlike (of-version-3 x) = Unit {0}
-
 -- Datatype and dataspace of a text that is read. That the datatype is of version 1 or 3 (28), and that both fill the sizes that are written
 -- for them (53), is in the standard's format.
 pub record TextDescribed (w : ℕ) (x : Described) : Type 0 where
@@ -90,8 +85,6 @@ pub record TextDescribed (w : ℕ) (x : Described) : Type 0 where
 pub record TextValue (w : ℕ) (x : Attribute) : Type 0 where
   -- 52: names up to 4,096 bytes
   pub name-size : nameSizeOf x ≤ 4096
-  -- 49: the padding of a name of version 1
-  pub name-padding : PaddedAlike x
   pub described : TextDescribed w (describedOf x)
 
 -- From p to q stands an attribute with a value. Its name is the name field, and its value the data field, each less the zeros at its end. No other

@@ -1,6 +1,6 @@
 -- Wherever an attribute that is read stands, the standard's attribute message stands over the same bytes with the same name and value, or a
 -- listed difference applies. Assumes nothing.
-use Prim.Native.Nat.{ℕ, _+_, _≤_, _<_}
+use Prim.Native.Nat.{ℕ, _+_, _≤_}
 use mathlib.Core.Path.{_≡_, refl, sym, ap, _∙_}
 use mathlib.Core.Logic.{_⊎_, inl, inr}
 use mathlib.Core.Bool.{Bool, true, false, _||_}
@@ -8,10 +8,9 @@ use mathlib.Core.List.{List}
 use native.Mathlib.Omega.{arith}
 use lib.Dec.{eqb, leb}
 use lib.ListN.{length}
-use borrow.Author.Tests.{eqb-true, eqb-false}
+use borrow.Author.Tests.{eqb-true}
 use Rattle.format.specs.Bits.{bit}
-use Rattle.format.specs.Bytes.{le, Trimmed}
-use Rattle.format.specs.BytesLaws.{by-le}
+use Rattle.format.specs.Bytes.{le, Trimmed, toMultipleOf8}
 use Rattle.format.specs.Format.{Format, done, number, skip, text, here, Stands, bind, check}
 use Rattle.format.specs.Standing.{stands-bind, stands-check, bind-stands}
 use Rattle.records.specs.declared.OptionPart.{OptionPart}
@@ -20,15 +19,14 @@ use Rattle.records.specs.declared.Attribute as ours
 use Rattle.parser.specs.declared.State.{State}
 use Rattle.ohdr_datatype.specs.DataTypes.{typeLevels}
 use Rattle.ohdr_attribute.specs.declared.AttributeFields.{AttributeFields}
-use Rattle.ohdr_attribute.specs.Attributes.{namePadding, padding, nameAndValue, encoding, attributeFields, attribute}
+use Rattle.ohdr_attribute.specs.Attributes.{padding, nameAndValue, encoding, attributeFields, attribute}
 use Rattle.ohdr_attribute.specs.Without.{With, Without, with-or-without}
 use Rattle.standard.specs.Fields.{raw}
 use Rattle.standard.specs.Tie.{Stood, Tied, tied-done, tied-number, tied-check}
 use Rattle.standard.specs.Versions.{version-stands, marked-stands}
-use Rattle.standard.specs.Datatypes.{toMultipleOf8}
 use Rattle.standard.specs.AttributeRules.{NullTerminated}
 use Rattle.standard.specs.Attributes.{Sizes1, sizes1, Sizes3, sizes3, Described, described, rawSize, Attribute1, attribute1, Attribute3, attribute3, of-version-1, of-version-3, attributeMessage}
-use Rattle.standard_attribute.specs.Differences.{ContentsDiffer, no-reading, AttributeDiffers, padded-name, shared, in-version-1, in-version-3}
+use Rattle.standard_attribute.specs.Differences.{ContentsDiffer, no-reading, AttributeDiffers, shared, in-version-1, in-version-3}
 use Rattle.standard_attribute.specs.Same.{SameName, SameAttribute, NameStood}
 use Rattle.standard_attribute.specs.Same as names
 use Rattle.standard_attribute.specs.Contents.{padded-length, Held, contents-tied}
@@ -104,14 +102,6 @@ raw-stands : (s : List ℕ) (p n : ℕ) → p + n ≤ length s → Stands s (raw
 unfolding raw
 raw-stands s p n h = (h, (refl, refl))
 
--- the padding of a name in version 1, unless the name is above 8 bytes and padded
-pub name-padding : (n : ℕ) → ((8 < n) × (toMultipleOf8 n ≡ 0 → ⊥)) ⊎ (namePadding 1 n ≡ toMultipleOf8 n)
-name-padding n = by-le n 8 (λ l. inr (omega arith)) (λ l. go (eqb (toMultipleOf8 n) 0) refl l)
-  where
-    go : (t : Bool) → eqb (toMultipleOf8 n) 0 ≡ t → 8 < n → ((8 < n) × (toMultipleOf8 n ≡ 0 → ⊥)) ⊎ (namePadding 1 n ≡ toMultipleOf8 n)
-    go true e l = let z = eqb-true (toMultipleOf8 n) 0 e in inr (omega arith)
-    go false e l = inl (l, eqb-false (toMultipleOf8 n) 0 e)
-
 -- a name that is null-terminated has the length that is left without zeros at the end
 terminated-length : (s : List ℕ) (p m l n : ℕ) → Trimmed s p m l → NullTerminated s (record { position = p; length = m }) n → l ≡ n
 terminated-length s p m l n h i =
@@ -135,7 +125,7 @@ abbrev pub ourName : State → AttributeFields → Format ours.Attribute
 ourName state f =
     here (λ from.
     text (f .«name_size») (λ length.
-    skip (namePadding (f .version) (f .«name_size»)) (
+    skip (padding (f .version) (f .«name_size»)) (
     nameAndValue (f .version) state (record { position = from; length = length }))))
 
 module _ (s : List ℕ) (state : State) where
@@ -143,7 +133,7 @@ module _ (s : List ℕ) (state : State) where
   name-of : (m q : ℕ) (a : ours.Attribute) (f : AttributeFields) → Stands s (ourName state f) m q a → SameName s (a .name) (record { position = m; length = f .«name_size» })
   name-of m q a f h =
       let part : Part = record { position = m; length = h .0 } in
-      same-name s m (f .«name_size») (h .0) (a .name) (h .1) (with-or-without s (f .version) state part (m + f .«name_size» + namePadding (f .version) (f .«name_size»)) q a .0 (h .2 .1) .0)
+      same-name s m (f .«name_size») (h .0) (a .name) (h .1) (with-or-without s (f .version) state part (m + f .«name_size» + padding (f .version) (f .«name_size»)) q a .0 (h .2 .1) .0)
 
   name-by : (p m q : ℕ) (a : ours.Attribute) (f : AttributeFields) → FieldsTied s p m f → Stands s (ourName state f) m q a → NameStood s p (a .name)
   name-by p m q a f (first x h e l v) i = names.in-version-1 m x h (rw e at (name-of m q a f i))
@@ -231,15 +221,11 @@ module _ (s : List ℕ) (state : State) (longest : ℕ) (wide : 4095 ≤ longest
         v = theAttribute1 x m (le s (m + x .name-size) (toMultipleOf8 (x .name-size))) (c .contents) (c .upto)
 
     version1 : (x : Sizes1) → le s p 1 ≡ 1 → Stands s sizes1 p m x → Stands s (ourName state (record { version = 1; «name_size» = x .name-size })) m q a → Found p q a
-    version1 x e h i = go (name-padding (x .name-size))
-      where
-        go : ((8 < x .name-size) × (toMultipleOf8 (x .name-size) ≡ 0 → ⊥)) ⊎ (namePadding 1 (x .name-size) ≡ toMultipleOf8 (x .name-size)) → Found p q a
-        go (inl d) = inl (padded-name m x h (d .0) (d .1))
-        go (inr d) =
-            let part : Part = record { position = m; length = i .0 } in
-            let j : Stands s (skip (toMultipleOf8 (x .name-size)) (nameAndValue 1 state part)) (m + x .name-size) q a = rw d at (i .2) in
-            let w = with-or-without s 1 state part (m + x .name-size + toMultipleOf8 (x .name-size)) q a .0 (j .1) in
-            found1 x (i .0) e h (i .1) (w .0) (j .0) (contents-of 1 toMultipleOf8 (λ _. refl) (x .datatype-size) (x .dataspace-size) (m + x .name-size + toMultipleOf8 (x .name-size)) q a (w .1))
+    version1 x e h i =
+        let part : Part = record { position = m; length = i .0 } in
+        let from = m + x .name-size + toMultipleOf8 (x .name-size) in
+        let w = with-or-without s 1 state part from q a .0 (i .2 .1) in
+        found1 x (i .0) e h (i .1) (w .0) (i .2 .0) (contents-of 1 toMultipleOf8 (λ _. refl) (x .datatype-size) (x .dataspace-size) from q a (w .1))
 
     found3 : (x : Sizes3) (l : ℕ) → le s p 1 ≡ 3 → Stands s sizes3 p m x → (bit (x .flags) 0 || bit (x .flags) 1) ≡ false → Trimmed s m (x .name-size) l
         → a .name ≡ record { position = m; length = l }

@@ -2,7 +2,7 @@
 -- same bytes, with the text as its value. Assumes nothing.
 use Prim.Native.Nat.{ℕ, _+_, _-_, _*_, _≤_, _<_}
 use mathlib.Core.Path.{_≡_, refl, sym, ap, _∙_}
-use mathlib.Core.Logic.{_⊎_, inl, inr}
+use mathlib.Core.Logic.{inl}
 use mathlib.Core.Bool.{Bool, true, false, not, _||_}
 use mathlib.Core.List.{List}
 use native.Mathlib.Omega.{arith}
@@ -10,7 +10,7 @@ use lib.Dec.{eqb}
 use lib.ListN.{length}
 use borrow.Author.Tests.{eqb-true, lt-ltb, le-leb}
 use Rattle.format.specs.Bits.{bit}
-use Rattle.format.specs.Bytes.{le, Trimmed, textLength}
+use Rattle.format.specs.Bytes.{le, Trimmed, textLength, toMultipleOf8}
 use Rattle.format.specs.BytesLaws.{trimmed-found}
 use Rattle.format.specs.Format.{Format, done, refuse, skip, here, bind, pick, Stands}
 use Rattle.format.specs.Laws.{unique}
@@ -24,16 +24,16 @@ use Rattle.records.specs.declared.DataSpace.{DataSpace}
 use Rattle.parser.specs.declared.State.{State}
 use Rattle.ohdr_datatype.specs.DataTypes.{classOf, dataType, typeLevels}
 use Rattle.ohdr_dataspace.specs.DataSpaces as spaces
-use Rattle.ohdr_attribute.specs.Attributes.{namePadding, padding, textValue, value, spaceValue, typeSpaceValue, encoding, attributeFields, attribute}
+use Rattle.ohdr_attribute.specs.Attributes.{padding, textValue, value, spaceValue, typeSpaceValue, encoding, attributeFields, attribute}
 use Rattle.ohdr_attribute.specs.Without.{with-or-without}
 use Rattle.standard.specs.Fields.{Bytes, only, raw}
 use Rattle.standard.specs.Versions.{byVersion, marked}
-use Rattle.standard.specs.Datatypes.{toMultipleOf8, datatypeMessage}
+use Rattle.standard.specs.Datatypes.{datatypeMessage}
 use Rattle.standard.specs.Dataspaces.{dataspaceMessage}
 use Rattle.standard.specs.Attributes.{Sizes1, sizes1, Sizes3, sizes3, sized, Described, described, elements, elementSize, rawSize, Attribute1, attribute1, Attribute3, attribute3, Attribute, of-version-1, of-version-3, attributeMessage}
 use Rattle.standard_attribute.specs.Same.{Less}
 use Rattle.standard_attribute.specs.TextValues.{TextDescribed, TextValue, ValueStands, nameOf, dataOf}
-use Rattle.standard_attribute.specs.Ties.{ourName, name-padding, same-name}
+use Rattle.standard_attribute.specs.Ties.{ourName, same-name}
 use Rattle.standard_attribute.specs.ReadSpaces.{space-read}
 use Rattle.standard_attribute.specs.ReadStrings.{string-read}
 
@@ -146,7 +146,7 @@ module _ (s : List ℕ) (state : State) where
 
   -- name and padding, contents and data of an attribute with these fields
   attribute-read : (longest levels version : ℕ) (pad : ℕ → ℕ) → ((n : ℕ) → padding version n ≡ pad n) → (datatype-size dataspace-size n k p m q : ℕ) (name : Bytes) (x : Described) (data-field : Bytes)
-      → Stands s attributeFields p m (record { version = version; «name_size» = n }) → namePadding version n ≡ k
+      → Stands s attributeFields p m (record { version = version; «name_size» = n }) → padding version n ≡ k
       → Laid n k (described longest levels (state .«size_of_lengths») pad datatype-size dataspace-size) m q name x data-field → TextDescribed (state .«size_of_lengths») x
       → ValueStands s state p q name data-field
   unfolding attribute
@@ -166,13 +166,6 @@ module _ (s : List ℕ) (state : State) where
         same-name = rw (← f .name-is) (same-name s m n l part t refl);
         same-value = rw (← f .data-is) (record { position = refl; length = y .1 });
       }
-
-  padded-alike : (n : ℕ) → (8 < n → toMultipleOf8 n ≡ 0) → namePadding 1 n ≡ toMultipleOf8 n
-  padded-alike n h = go (name-padding n)
-    where
-      go : ((8 < n) × (toMultipleOf8 n ≡ 0 → ⊥)) ⊎ (namePadding 1 n ≡ toMultipleOf8 n) → namePadding 1 n ≡ toMultipleOf8 n
-      go (inl d) = absurd (d .1 (h (d .0)))
-      go (inr e) = e
 
   -- the standard's format, with its two bounds
   module _ (longest levels : ℕ) where
@@ -225,7 +218,7 @@ module _ (s : List ℕ) (state : State) where
             let z = y .sizes in
             let i = laid1 p q y h in
             attribute-read longest levels 1 toMultipleOf8 (λ _. refl) (z .datatype-size) (z .dataspace-size) (z .name-size) (toMultipleOf8 (z .name-size)) p (i .0) q (y .name) (y .described) (y .«data»)
-            (fields1-read p (i .0) z (i .1) (r .name-size)) (padded-alike (z .name-size) (r .name-padding)) (i .2) (r .described)
+            (fields1-read p (i .0) z (i .1) (r .name-size)) refl (i .2) (r .described)
     by-version p q x false true h r =
         let c = stands-bind s (attribute3 longest levels (state .«size_of_lengths»)) (λ y. done (of-version-3 y)) p q x h in
         rw (← c .3 .1) (third (c .1) (rw (c .3 .0) at (c .2)) (rw (← c .3 .1) at r))

@@ -10,8 +10,10 @@ use Rattle.records.specs.declared.DataFormat.the-variants as formats
 use Rattle.records.specs.declared.OptionDataFormat.{OptionDataFormat}
 use Rattle.records.specs.declared.OptionDataFormat.the-variants as optionFormats
 use Rattle.records.specs.declared.DataType.{DataType}
-use Rattle.standard.specs.Datatypes.{DatatypeHeader, datatypeHeader, class, Datatype, datatype, headerOf, Properties, fixed-point, floating-point, no-properties, members, parent-type, Members, no-members, version-1, version-3}
-use Rattle.standard.specs.DatatypeRules.{Each}
+use Rattle.ohdr_datatype.specs.declared.DataTypeHeader.{DataTypeHeader}
+use Rattle.ohdr_datatype.specs.DataTypes.{listSize}
+use Rattle.standard.specs.Datatypes.{DatatypeHeader, datatypeHeader, class, Datatype, datatype, headerOf, Properties, fixed-point, floating-point, no-properties, members, parent-type, Member1, Member}
+use Rattle.standard.specs.DatatypeRules.{InVersion1, OfMembers, Each}
 
 -- the format of a number is that of the property fields; a variable-length type takes it of its parent type, and so on to the innermost
 abbrev mutual
@@ -32,18 +34,16 @@ abbrev mutual
 abbrev pub listSizeOf : DatatypeHeader → OptionU32
 listSizeOf h = pick (eqb (class h) 9) (options32.Some (h .size)) options32.None
 
--- members are of version 3 alone (docs/DIFFERENCES.md, 37)
-abbrev pub OfVersion3 : Members → Type 0
-OfVersion3 no-members = Unit {0}
-OfVersion3 (version-1 m t rest) = ⊥
-OfVersion3 (version-3 m t rest) = OfVersion3 rest
+-- the record that is made of a header and a format
+abbrev pub typeOf : DataTypeHeader → OptionDataFormat → DataType
+typeOf h f = record { «class_and_version» = h .«class_and_version»; «class_bit_field» = h .«class_bit_field»; size = h .size; «list_size» = listSize h; «data_fmt» = f }
 
-abbrev pub MembersOfVersion3 : DatatypeHeader → Properties → Type 0
-MembersOfVersion3 h (fixed-point f) = Unit {0}
-MembersOfVersion3 h (floating-point f) = Unit {0}
-MembersOfVersion3 h no-properties = Unit {0}
-MembersOfVersion3 h (members m) = OfVersion3 m
-MembersOfVersion3 h (parent-type t) = Unit {0}
+-- a member of version 1 that is read is scalar (docs/DIFFERENCES.md, 38)
+abbrev pub ScalarMember : Member → Type 0
+ScalarMember m = InVersion1 (λ (x : Member1). x .dimensionality ≡ 0) m
+
+abbrev pub ScalarMembers : DatatypeHeader → Properties → Type 0
+ScalarMembers = OfMembers (λ h m t. ScalarMember m)
 
 -- each field of the record is the field that the standard names: those of the message's header
 pub record SameHeader (ours : DataType) (theirs : DatatypeHeader) : Type 0 where
@@ -56,7 +56,7 @@ pub record SameHeader (ours : DataType) (theirs : DatatypeHeader) : Type 0 where
 pub record SameType (ours : DataType) (theirs : Datatype) : Type 0 where
   pub header : SameHeader ours (headerOf theirs)
   pub properties : ours .«data_fmt» ≡ formatOf theirs
-  pub members : Each MembersOfVersion3 theirs
+  pub members : Each ScalarMembers theirs
 
 -- the header alone stands at p
 pub record HeaderStood (s : List ℕ) (p : ℕ) (ours : DataType) : Type 0 where

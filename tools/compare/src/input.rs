@@ -67,3 +67,8 @@ pub fn get(bytes: &[u8]) -> u64 {
         .rev()
         .fold(0, |number, byte| number << 8 | u64::from(*byte))
 }
+
+/// The bytes that pad so many to a multiple of 8.
+pub fn padding(bytes: usize) -> usize {
+    bytes.next_multiple_of(8) - bytes
+}

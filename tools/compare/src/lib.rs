@@ -1,9 +1,13 @@
 //! The port and the Rust that it was ported from, side by side: inputs, the answers of both in one
 //! form, and the report that is compared.
 
+// `rust/copy.rs` is written once, and is a module over each copy of the Rust.
+#![allow(clippy::duplicate_mod)]
+
 pub mod answer;
 pub mod generate;
 mod hdf;
+mod hdf_mended;
 pub mod input;
 pub mod plain;
 pub mod port;

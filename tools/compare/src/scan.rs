@@ -1,11 +1,19 @@
-//! Attributes that stand outside the comparison and leave no trace in either answer: a type of more
-//! than 32 levels, and size times elements of 2^64 or more.
+//! What the bytes of messages show and no answer does: attributes that stand outside the comparison,
+//! and the forms that the mended Rust reads otherwise than the published one.
 //!
-//! Every field that the Rust tests before that is tested here too, so that a header which is refused
-//! or an attribute that fails before it gets so far stays in the comparison.
+//! Outside are a type of more than 32 levels, and size times elements of 2^64 or more. The forms are
+//! members of version 1 compounds, and version 1 names above 8 bytes that are no multiple of 8.
+//!
+//! Every field that the mended Rust tests before that is tested here too, so that a header which is
+//! refused or an attribute that fails before it gets so far stays in the comparison, with both.
 
-use crate::input::{Input, get};
+use std::fmt;
 
+use crate::input::{Input, get, padding};
+use crate::rust::Entry;
+
+const DATA_TYPE: u8 = 3;
+const ATTRIBUTE: u8 = 12;
 const LEVELS: u32 = 32;
 const LONGEST_NAME: usize = 4096;
 const STRING_LIMIT_V1: usize = 255;
@@ -18,35 +26,123 @@ pub enum Outside {
     Elements,
 }
 
-/// Whether the attribute whose body stands at a position is outside the comparison.
-pub fn attribute(input: &Input, body: usize) -> Option<Outside> {
-    let mut scan = Scan {
-        input,
-        at: body,
-        outside: None,
-    };
-    // A field that cannot be read ends the attribute, there as in its readers.
-    let _ = scan.attribute();
-    scan.outside
+/// What a compound stands in; lists between the two are passed over.
+#[derive(Clone, Copy, Debug, PartialEq, Eq)]
+pub enum Holder {
+    Message,
+    /// Of a version.
+    Attribute(u64),
+    /// Of a version.
+    Compound(u64),
 }
 
-/// Whether the datatype message whose body stands at a position has more levels than are allowed.
-pub fn type_too_deep(input: &Input, body: usize) -> bool {
-    let mut scan = Scan {
-        input,
-        at: body,
-        outside: None,
-    };
-    scan.data_type(1).is_none() && scan.outside.is_some()
+/// A place where version 1 has padding of its own, or version 3 has none.
+#[derive(Clone, Copy, Debug, PartialEq, Eq)]
+pub enum Form {
+    /// Of a compound of a version.
+    Member {
+        version: u64,
+        holder: Holder,
+        /// The bytes of its name with the closing one, and where they end.
+        name: usize,
+        end: usize,
+    },
+    /// Of a version 1 attribute: above 8 bytes, and no multiple of 8.
+    LongName { size: usize },
+}
+
+/// What the messages of a header show.
+#[derive(Default)]
+pub struct Found {
+    /// Of its attributes.
+    pub outside: Option<Outside>,
+    /// Whether a datatype message has more levels than are allowed.
+    pub type_too_deep: bool,
+    /// Of messages that are read to their end.
+    pub forms: Vec<Form>,
+    /// Of messages that are refused, and of attributes that fail.
+    pub failed: Vec<Form>,
+}
+
+impl Found {
+    /// Whether there is a form that the published Rust reads otherwise than the mended one.
+    pub fn is_mended(&self) -> bool {
+        self.forms.iter().chain(&self.failed).any(Form::is_mended)
+    }
+}
+
+impl Form {
+    /// Whether the published Rust reads it otherwise than the mended one.
+    pub fn is_mended(&self) -> bool {
+        !matches!(self, Form::Member { version: 3, .. })
+    }
+}
+
+/// The form without its figures.
+impl fmt::Display for Form {
+    fn fmt(&self, out: &mut fmt::Formatter) -> fmt::Result {
+        match self {
+            Form::Member {
+                version, holder, ..
+            } => {
+                write!(out, "a version {version} compound with members in ")?;
+                match holder {
+                    Holder::Message => write!(out, "a datatype message"),
+                    Holder::Attribute(version) => write!(out, "a version {version} attribute"),
+                    Holder::Compound(version) => write!(out, "a version {version} compound"),
+                }
+            }
+            Form::LongName { .. } => {
+                write!(out, "a version 1 name above 8 bytes and no multiple of 8")
+            }
+        }
+    }
+}
+
+/// What the messages show that the mended Rust began to read.
+pub fn header(input: &Input, entries: &[Entry]) -> Found {
+    let mut found = Found::default();
+    for entry in entries {
+        let mut scan = Scan::new(input, entry.body);
+        // A field that cannot be read ends the message, here as in its readers.
+        let end = match entry.kind {
+            DATA_TYPE => scan.data_type(1).map(drop),
+            ATTRIBUTE => scan.attribute(),
+            _ => continue,
+        };
+        match end {
+            Some(()) => found.forms.extend(scan.forms),
+            None => found.failed.extend(scan.forms),
+        }
+        if entry.kind == ATTRIBUTE {
+            found.outside = found.outside.or(scan.outside);
+        } else {
+            found.type_too_deep |= scan.outside.is_some();
+        }
+    }
+    found
 }
 
 struct Scan<'a> {
     input: &'a Input,
     at: usize,
+    /// What the next type stands in.
+    holder: Holder,
     outside: Option<Outside>,
+    forms: Vec<Form>,
 }
 
 impl<'a> Scan<'a> {
+    fn new(input: &'a Input, body: usize) -> Scan<'a> {
+        Scan {
+            input,
+            at: body,
+            holder: Holder::Message,
+            outside: None,
+            forms: Vec::new(),
+        }
+    }
+
     fn take(&mut self, count: usize) -> Option<&'a [u8]> {
         let bytes = self.input.file.get(self.at..self.at.checked_add(count)?)?;
         self.at += count;
@@ -66,15 +162,23 @@ impl<'a> Scan<'a> {
         }
         self.take(if version == 3 { 5 } else { 4 })?;
         self.take(name_size)?;
-        if version == 1 && name_size < 8 {
-            self.take((8 - name_size) % 8)?;
+        if version == 1 {
+            self.name_padding(name_size)?;
         }
+        self.holder = Holder::Attribute(version);
         let size = self.padded(version, |scan| scan.data_type(1))?;
         let elements = self.padded(version, Scan::elements)?;
         if u128::from(size) * elements >= 1 << 64 {
-            self.outside = Some(Outside::Elements);
+            self.outside.get_or_insert(Outside::Elements);
         }
         Some(())
+    }
+
+    fn name_padding(&mut self, name_size: usize) -> Option<()> {
+        if name_size > 8 && padding(name_size) > 0 {
+            self.forms.push(Form::LongName { size: name_size });
+        }
+        self.take(padding(name_size)).map(drop)
     }
 
     /// A field that a version 1 attribute pads to 8 bytes.
@@ -82,17 +186,15 @@ impl<'a> Scan<'a> {
         let start = self.at;
         let value = field(self)?;
         if version == 1 {
-            let used = self.at - start;
-            self.take(used.next_multiple_of(8) - used)?;
+            self.take(padding(self.at - start))?;
         }
         Some(value)
     }
 
-    /// The size of a type at a level.
+    /// The size of a type at a level. One above the limit is read on all the same, for its forms.
     fn data_type(&mut self, level: u32) -> Option<u64> {
         if level > LEVELS {
-            self.outside = Some(Outside::TypeLevel);
-            return None;
+            self.outside.get_or_insert(Outside::TypeLevel);
         }
         let first = self.number(1)?;
         let (class, version) = (first & 15, first >> 4);
@@ -105,7 +207,7 @@ impl<'a> Scan<'a> {
             0 => drop(self.take(4)?),
             1 => self.float()?,
             3 | 7 => {}
-            6 => (0..bits & 0xffff).try_for_each(|_| self.member(version, size, level))?,
+            6 => self.members(bits & 0xffff, version, size, level)?,
             9 => drop(self.data_type(level + 1)?),
             _ => return None,
         }
@@ -119,21 +221,40 @@ impl<'a> Scan<'a> {
         (fields == SINGLE || fields == DOUBLE).then_some(())
     }
 
-    fn member(&mut self, version: u64, size: u64, level: u32) -> Option<()> {
-        if version == 3 {
-            self.name(STRING_LIMIT_V3)?;
-            self.take(usize::from(size > 0))?;
-        } else {
-            let name = self.name(STRING_LIMIT_V1)?;
-            self.take((7_usize.wrapping_sub(name)) % 8)?;
-            self.take(4)?;
-            if self.number(4)? != 0 {
-                return None;
-            }
-            self.take(27)?;
+    fn members(&mut self, count: u64, version: u64, size: u64, level: u32) -> Option<()> {
+        let holder = self.holder;
+        for _ in 0..count {
+            self.member(version, size, holder)?;
+            self.holder = Holder::Compound(version);
+            self.data_type(level + 1)?;
         }
-        self.data_type(level + 1)?;
+        self.holder = holder;
         Some(())
+    }
+
+    /// What stands before a member's type.
+    fn member(&mut self, version: u64, size: u64, holder: Holder) -> Option<()> {
+        let name = self.name(if version == 3 {
+            STRING_LIMIT_V3
+        } else {
+            STRING_LIMIT_V1
+        })?;
+        self.forms.push(Form::Member {
+            version,
+            holder,
+            name,
+            end: self.at,
+        });
+        if version == 3 {
+            return self.take(usize::from(size > 0)).map(drop);
+        }
+        self.take(padding(name))?;
+        let _offset = self.take(4)?;
+        let dimensionality = self.number(1)?;
+        if dimensionality != 0 {
+            return None;
+        }
+        self.take(27).map(drop)
     }
 
     /// The bytes of a name with its closing byte.

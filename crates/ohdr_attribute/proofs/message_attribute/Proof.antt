@@ -30,8 +30,8 @@ returns : tie.Need-returns
 unfolding attribute
 returns c = rw (read-bind, ← c .before .before .before .before .before .before .before .attribute-fields .ensures, c .before .before .before .before .before .fields .given .1, read-here, read-text, ← c .before .before .trim-end .ensures, c .enum-told .given .1)
 
-name-padding-requires : tie.Need-name-padding-requires
-name-padding-requires c κs = search needs
+eight-padding-requires : tie.Need-eight-padding-requires
+eight-padding-requires c κs = search needs
 
 take-requires : tie.Need-take-requires
 take-requires c κs = search needs
@@ -44,7 +44,7 @@ enum-told-2 c = search needs
 
 returns-2 : tie.Need-returns-2
 unfolding attribute
-returns-2 c = rw (read-bind, ← c .before .before .before .before .before .before .before .before .before .before .before .before .attribute-fields .ensures, c .before .before .before .before .before .before .before .before .before .before .fields .given .1, read-here, read-text, ← c .before .before .before .before .before .before .before .trim-end .ensures, c .before .before .before .before .before .length .given .1, read-skip, ← c .before .before .before .name-padding .ensures, ← c .before .before .take .ensures, c .enum-told2 .given .1)
+returns-2 c = rw (read-bind, ← c .before .before .before .before .before .before .before .before .before .before .before .before .attribute-fields .ensures, c .before .before .before .before .before .before .before .before .before .before .fields .given .1, read-here, read-text, ← c .before .before .before .before .before .before .before .trim-end .ensures, c .before .before .before .before .before .length .given .1, read-skip, ← c .before .before .before .eight-padding .ensures, ← c .before .before .take .ensures, c .enum-told2 .given .1)
 
 name-and-value-requires : tie.Need-name-and-value-requires
 name-and-value-requires c κs = search needs
@@ -55,7 +55,7 @@ returns-3 c = rw (read-bind, ← c .before .before .before .attribute-fields .en
 
 returns-4 : tie.Need-returns-4
 unfolding attribute
-returns-4 c = rw (read-bind, ← c .before .before .before .before .before .before .before .before .before .before .before .before .before .before .attribute-fields .ensures, c .before .before .before .before .before .before .before .before .before .before .before .before .fields .given .1, read-here, read-text, ← c .before .before .before .before .before .before .before .before .before .trim-end .ensures, c .before .before .before .before .before .before .before .length .given .1, read-skip, ← c .before .before .before .before .before .name-padding .ensures, ← c .before .before .before .before .take .ensures, c .before .before .type-at .given .1) (c .name-and-value .ensures)
+returns-4 c = rw (read-bind, ← c .before .before .before .before .before .before .before .before .before .before .before .before .before .before .attribute-fields .ensures, c .before .before .before .before .before .before .before .before .before .before .before .before .fields .given .1, read-here, read-text, ← c .before .before .before .before .before .before .before .before .before .trim-end .ensures, c .before .before .before .before .before .before .before .length .given .1, read-skip, ← c .before .before .before .before .before .eight-padding .ensures, ← c .before .before .before .before .take .ensures, c .before .before .type-at .given .1) (c .name-and-value .ensures)
 
 pub message-attribute-spec : {M : Type 1} → statement M
 message-attribute-spec =
@@ -69,7 +69,7 @@ message-attribute-spec =
     enum-known-length
     enum-told
     returns
-    name-padding-requires
+    eight-padding-requires
     take-requires
     enum-known-type-at
     enum-told-2

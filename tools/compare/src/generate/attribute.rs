@@ -2,7 +2,7 @@
 
 use super::maker::Maker;
 use super::piece::Piece;
-use crate::input::{get, put};
+use crate::input::{get, padding, put};
 
 /// Values up to this length are written out.
 const WRITTEN: u128 = 400;
@@ -12,7 +12,8 @@ const MANY: &[(u64, u64)] = &[(32, 32_768), (25, 41_943), (17, 61_681)];
 impl Maker<'_> {
     pub fn attribute(&mut self) -> Piece {
         let mut piece = Piece::default();
-        let version = self.choose(&[1, 3], &[0, 2, 4, 255]);
+        let good = self.pick_early(&[1, 1, 3], &[1, 3]);
+        let version = self.choose(&[good], &[0, 2, 4, 255]);
         let name_size = self.name_size();
         let told = self.choose(&[name_size], &[4097, 4098, 65_535]);
         piece.put(version, 1);
@@ -23,16 +24,22 @@ impl Maker<'_> {
         piece.bytes.extend(unused);
         let name = self.text(name_size as usize);
         piece.bytes.extend(name);
-        if version == 1 && name_size < 8 {
-            let padding = self.bytes((8 - name_size as usize) % 8);
+        if version == 1 {
+            let padding = self.name_padding(name_size as usize);
             piece.bytes.extend(padding);
         }
         self.type_space_value(&mut piece, version);
         piece
     }
 
+    /// The padding of a version 1 name; now and then as the published Rust reads it, none above 8.
+    fn name_padding(&mut self, name_size: usize) -> Vec<u8> {
+        let published = name_size > 8 && self.random.rarely(60);
+        self.bytes(if published { 0 } else { padding(name_size) })
+    }
+
     fn name_size(&mut self) -> u64 {
-        let some = self.random.below(20);
+        let some = self.random.below(41);
         if self.random.rarely(4) {
             return self.random.pick(&[255, 256, 4095, 4096, 4097]);
         }
@@ -45,7 +52,7 @@ impl Maker<'_> {
         if self.random.rarely(5) {
             return self.many_numbers(piece, version);
         }
-        let class = self.random.pick(&[3, 3, 3, 3, 9, 0, 1, 6, 7]);
+        let class = self.pick_early(&[3, 3, 9, 6, 6, 6], &[3, 3, 3, 3, 9, 0, 1, 6, 7]);
         let data_type = match self.random.rarely(10) {
             true => self.deep_type(),
             false => self.type_of(class),
@@ -80,7 +87,7 @@ impl Maker<'_> {
     fn padded(&mut self, rest: &mut Vec<u8>, field: &[u8], version: u64) {
         rest.extend(field);
         if version == 1 {
-            let padding = self.bytes(field.len().next_multiple_of(8) - field.len());
+            let padding = self.bytes(padding(field.len()));
             rest.extend(padding);
         }
     }

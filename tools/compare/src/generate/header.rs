@@ -250,9 +250,10 @@ impl Maker<'_> {
         let fields = matches!(kind, 1..=5 | 8 | 10 | 11 | 12 | 16 | 21);
         let length = body.len() as u64;
         let more = self.random.within(1, 9);
-        let (size, padding) = match self.random.below(100) {
-            0..6 if fields => (self.random.below(length + 1), 0),
-            6..12 => (length + more, more),
+        let smaller = if self.early { 300 } else { 60 };
+        let (size, padding) = match self.random.below(1000) {
+            part if fields && part < smaller => (self.random.below(length + 1), 0),
+            940.. => (length + more, more),
             _ if self.fault() => (self.random.pick(&[length + more, 65_535]), 0),
             _ => (length, 0),
         };

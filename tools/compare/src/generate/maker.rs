@@ -8,6 +8,9 @@ pub struct Maker<'r> {
     pub length_width: u8,
     /// The bytes that a superblock takes in front of the file.
     pub front: usize,
+    /// Whether version 1 compounds and attributes are made more often than others, and sizes of
+    /// bodies that are too small, so that it shows where a body ends.
+    pub early: bool,
     /// Faults that may still be made, and how often, in thousandths of the chances.
     faults: u32,
     rate: u64,
@@ -37,9 +40,20 @@ impl<'r> Maker<'r> {
             offset_width,
             length_width,
             front: 0,
+            early: false,
             faults,
             rate,
         }
+    }
+
+    /// The same maker, of early forms or not.
+    pub fn early(self, early: bool) -> Maker<'r> {
+        Maker { early, ..self }
+    }
+
+    /// A pick of the choices for early forms, or of the others.
+    pub fn pick_early<T: Copy>(&mut self, early: &[T], others: &[T]) -> T {
+        self.random.pick(if self.early { early } else { others })
     }
 
     /// Whether to do something wrong here.

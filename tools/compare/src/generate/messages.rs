@@ -10,9 +10,12 @@ impl Maker<'_> {
     /// The type of a message, continuations left out.
     pub fn kind(&mut self) -> u64 {
         const KINDS: &[u64] = &[1, 1, 2, 3, 3, 4, 5, 8, 8, 10, 11, 12, 12, 12, 12, 21, 0];
+        const EARLY: &[u64] = &[3, 3, 12, 12, 12, 12, 1, 0];
         const UNKNOWN: &[u64] = &[6, 7, 9, 13, 14, 15, 17, 18, 19, 20, 22, 23, 255];
-        let other = self.random.rarely(50);
-        self.random.pick(if other { UNKNOWN } else { KINDS })
+        if self.random.rarely(50) {
+            return self.random.pick(UNKNOWN);
+        }
+        self.pick_early(EARLY, KINDS)
     }
 
     /// The body of a message of a type.

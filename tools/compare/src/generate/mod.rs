@@ -22,19 +22,21 @@ const REAL_SPAN: usize = 600;
 /// Shows the inputs of a batch. `real` are the headers of real files, if any.
 pub fn batch(seed: u64, number: u64, real: &[Input], show: &mut dyn FnMut(&Input)) {
     let mut random = Random::new(seed, number);
+    // A batch of those that are made, and one of the damaged.
+    let early = matches!(number % 20, 7 | 14);
     match number % 20 {
-        8..15 => damaged(&mut random, show),
+        8..15 => damaged(&mut random, early, show),
         15 => (0..BATCH).for_each(|_| show(&spliced(&mut random))),
         16 => (0..BATCH).for_each(|_| show(&damage::short(&mut random))),
         17.. if !real.is_empty() => damaged_real(&mut random, real, show),
-        _ => (0..BATCH).for_each(|_| show(&Maker::new(&mut random).input())),
+        _ => (0..BATCH).for_each(|_| show(&Maker::new(&mut random).early(early).input())),
     }
 }
 
-fn damaged(random: &mut Random, show: &mut dyn FnMut(&Input)) {
+fn damaged(random: &mut Random, early: bool, show: &mut dyn FnMut(&Input)) {
     let mut left = BATCH;
     while left > 0 {
-        let input = Maker::good(random).input();
+        let input = Maker::good(random).early(early).input();
         let range = 0..input.file.len();
         left -= damage::every_byte_of(&input, range, left, random, show);
     }

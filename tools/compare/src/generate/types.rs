@@ -2,6 +2,7 @@
 
 use super::maker::Maker;
 use super::piece::Piece;
+use crate::input::padding;
 
 const SINGLE: [u8; 12] = [0, 0, 32, 0, 23, 8, 0, 23, 127, 0, 0, 0];
 const DOUBLE: [u8; 12] = [0, 0, 64, 0, 52, 11, 0, 52, 255, 3, 0, 0];
@@ -31,14 +32,20 @@ impl Maker<'_> {
     fn type_below(&mut self, piece: &mut Piece, levels: u32) {
         const FLAT: &[u64] = &[0, 0, 1, 1, 3, 3, 7];
         const NESTED: &[u64] = &[0, 0, 1, 1, 3, 3, 7, 6, 6, 9, 9];
-        let good = if levels == 0 { FLAT } else { NESTED };
+        const EARLY: &[u64] = &[0, 1, 3, 7, 6, 6, 6, 9];
+        let good = match levels {
+            0 => FLAT,
+            _ if self.early => EARLY,
+            _ => NESTED,
+        };
         let class = self.choose(good, &[2, 4, 5, 8, 10, 15]);
         self.class(piece, class, levels);
     }
 
     /// The first eight bytes; answers the version and the size.
     fn type_fields(&mut self, piece: &mut Piece, class: u64, bits: u64) -> (u64, u64) {
-        let version = self.choose(&[1, 3], &[0, 2, 4, 5, 15]);
+        let good = self.pick_early(&[1, 1, 1, 3], &[1, 3]);
+        let version = self.choose(&[good], &[0, 2, 4, 5, 15]);
         let some = self.random.below(64);
         let size = self.choose(
             &[0, 1, 4, 8, 12, 13, 16, 63, some, some],
@@ -89,16 +96,18 @@ impl Maker<'_> {
     }
 
     /// What stands before a member's type. A name that is longer than its limit goes on through the
-    /// bytes after it: the first of them closes it, whatever it is.
+    /// bytes after it: the first of them closes it, whatever it is. Now and then version 1 is as the
+    /// published Rust reads it: with one byte more to pad, and a dimensionality of 4 bytes.
     fn member(&mut self, piece: &mut Piece, version: u64, size: u64) {
         let limit = if version == 3 { 4095 } else { 255 };
         let length = self.member_name_length(limit);
         let name = length.min(limit);
         let letters = self.letters(name);
         piece.bytes.extend(letters);
+        let published = version != 3 && self.random.rarely(60);
         let after = match version {
             3 => usize::from(size > 0),
-            _ => (6_usize.wrapping_sub(name)) % 8 + 4,
+            _ => padding(name + 1 + usize::from(published)) + 4,
         };
         let closing = match length > limit {
             true => self.letters(1 + after),
@@ -106,19 +115,30 @@ impl Maker<'_> {
         };
         piece.bytes.extend(closing);
         if version != 3 {
-            let dimension = self.choose(&[0], &[1, 0x100, 0x8000_0000]);
-            piece.put(dimension, 4);
-            let ignored = self.bytes(27);
-            piece.bytes.extend(ignored);
+            let dimensionality = self.choose(&[0], &[1, 2, 4, 128, 255]);
+            piece.put(dimensionality, if published { 4 } else { 1 });
+            let untested = self.untested();
+            piece.bytes.extend(untested);
+        }
+    }
+
+    /// Reserved bytes, permutation and sizes of a version 1 member, often zero as they should be.
+    fn untested(&mut self) -> Vec<u8> {
+        match self.random.rarely(300) {
+            true => vec![0; 27],
+            false => self.bytes(27),
         }
     }
 
     fn member_name_length(&mut self, limit: usize) -> usize {
         let some = self.random.below(12) as usize;
+        let near = 8 * self.random.within(1, 5) as usize + self.random.below(4) as usize - 2;
         if self.random.rarely(15) {
-            return self.random.pick(&[limit - 8, limit - 1, limit, limit + 1]);
+            return self
+                .random
+                .pick(&[limit - 8, limit - 7, limit - 1, limit, limit + 1]);
         }
-        self.random.pick(&[0, 1, 6, 7, 8, some, some, some])
+        self.random.pick(&[0, 1, 6, 7, 8, near, some, some, some])
     }
 
     /// Lists or compounds around one flat type, at the limit of levels.

@@ -1,4 +1,4 @@
-//! The published Rust. All but `btree` are copied here when the tree is built.
+//! A copy of the Rust. All but `btree` are put here when the tree is built.
 #![allow(dead_code, unused_imports, unused_mut)]
 
 pub mod btree;

@@ -2,7 +2,9 @@
 //! find every one of them.
 
 use sides::answer::{Format, Header, Optional, Row};
+use sides::input::Input;
 use sides::port::{Outcome, PlainAnswer};
+use sides::rust::{self, published};
 
 use crate::plain_breakage::PLAIN;
 
@@ -14,6 +16,8 @@ pub struct Breakage {
 pub enum Change {
     /// Of a header's answer, by hand or from the root.
     Header(fn(Outcome) -> Outcome),
+    /// Of the same, where the input is given too.
+    Given(fn(&Input, Outcome) -> Outcome),
     /// Of the answers for a plain file, which is given too.
     Plain(fn(&[u8], &mut PlainAnswer)),
 }
@@ -81,6 +85,10 @@ pub const HEADER: &[Breakage] = &[
     breakage("refusal-of-levels", |o| accept(o, 21)),
     breakage("always-outside", |o| refuse_with(o, 14)),
     breakage("entries-outside", |o| refuse_with(o, 23)),
+    Breakage {
+        name: "as-the-published-rust",
+        change: Change::Given(as_published),
+    },
 ];
 
 pub fn named(name: &str) -> Result<&'static Breakage, String> {
@@ -91,9 +99,10 @@ pub fn named(name: &str) -> Result<&'static Breakage, String> {
 }
 
 impl Breakage {
-    pub fn break_header(&self, outcome: Outcome) -> Outcome {
+    pub fn break_header(&self, input: &Input, outcome: Outcome) -> Outcome {
         match self.change {
             Change::Header(change) => change(outcome),
+            Change::Given(change) => change(input, outcome),
             Change::Plain(_) => outcome,
         }
     }
@@ -148,6 +157,15 @@ fn accept(outcome: Outcome, number: u64) -> Outcome {
     match outcome {
         Outcome::Refused(refused) if refused == number => Outcome::Read(Box::default()),
         other => other,
+    }
+}
+
+/// What the published Rust answers: a port that pads as it does.
+fn as_published(input: &Input, outcome: Outcome) -> Outcome {
+    match (published::rust_answer(input).outcome, outcome) {
+        (rust::Outcome::Read(header), _) => Outcome::Read(header),
+        (rust::Outcome::Refused, Outcome::Read(_)) => Outcome::Refused(11),
+        (_, outcome) => outcome,
     }
 }
 

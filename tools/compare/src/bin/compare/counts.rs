@@ -1,10 +1,11 @@
 //! What is counted: outcomes, and what accepted headers hold.
 
-use std::collections::BTreeMap;
+use std::collections::{BTreeMap, BTreeSet};
 
 use sides::answer::Header;
+use sides::scan::Form;
 
-use crate::judge::{Exclusion, Verdict};
+use crate::judge::{Exclusion, Judged, Verdict};
 
 /// The message types with fields, by name; the rest are skipped by their size.
 const TYPES: &[(u64, &str)] = &[
@@ -25,6 +26,48 @@ pub trait Sum: Default + Send {
     fn add(&mut self, other: Self);
 }
 
+/// What inputs inside the comparison were compared with.
+#[derive(Clone, Default)]
+pub struct Beside {
+    both: u64,
+    /// The mended Rust, since there is a form that the published one reads otherwise.
+    mended: u64,
+    /// Those of them that the published Rust answers otherwise.
+    otherwise: u64,
+}
+
+impl Beside {
+    fn count(&mut self, judged: &Judged) {
+        let mended = judged.found.is_mended();
+        self.both += u64::from(!mended);
+        self.mended += u64::from(mended);
+        self.otherwise += u64::from(mended && judged.otherwise.is_some());
+    }
+
+    /// Whether the patch shows: where there are its forms, the published Rust must answer some of
+    /// them otherwise.
+    pub fn shows_patch(&self) -> bool {
+        self.mended == 0 || self.otherwise > 0
+    }
+
+    /// Prints the counts of inputs that have a name.
+    pub fn print(&self, name: &str) {
+        println!("{name}compared with both Rusts {}", self.both);
+        println!(
+            "{name}compared with the mended Rust alone {}, {} of them answered otherwise by the published one",
+            self.mended, self.otherwise
+        );
+    }
+}
+
+impl Sum for Beside {
+    fn add(&mut self, other: Beside) {
+        self.both += other.both;
+        self.mended += other.mended;
+        self.otherwise += other.otherwise;
+    }
+}
+
 /// Of headers.
 #[derive(Default)]
 pub struct Counts {
@@ -34,18 +77,23 @@ pub struct Counts {
     outside: BTreeMap<Exclusion, u64>,
     pub panicked: u64,
     pub differing: u64,
+    pub beside: Beside,
     /// What accepted headers hold.
     types: BTreeMap<u64, u64>,
+    forms: BTreeMap<String, u64>,
     headers_with_blocks: u64,
     values: u64,
     empty_values: u64,
 }
 
 impl Counts {
-    pub fn count(&mut self, verdict: &Verdict) {
+    pub fn count(&mut self, judged: &Judged) {
         self.headers += 1;
-        match verdict {
-            Verdict::Accepted(header) => self.count_header(header),
+        if !matches!(judged.verdict, Verdict::Outside(_) | Verdict::Panicked(_)) {
+            self.beside.count(judged);
+        }
+        match &judged.verdict {
+            Verdict::Accepted(header) => self.count_header(header, &judged.found.forms),
             Verdict::Refused(number) => count(&mut self.refused, *number),
             Verdict::Outside(why) => count(&mut self.outside, *why),
             Verdict::Panicked(..) => self.panicked += 1,
@@ -53,8 +101,12 @@ impl Counts {
         }
     }
 
-    fn count_header(&mut self, header: &Header) {
+    fn count_header(&mut self, header: &Header, forms: &[Form]) {
         self.accepted += 1;
+        let forms: BTreeSet<String> = forms.iter().map(Form::to_string).collect();
+        forms
+            .into_iter()
+            .for_each(|form| count(&mut self.forms, form));
         self.headers_with_blocks += u64::from(header.entries > header.rows.len() as u64);
         for row in &header.rows {
             *self.types.entry(row.kind).or_default() += 1;
@@ -74,6 +126,7 @@ impl Counts {
         for (why, count) in &self.outside {
             println!("  {}: {count}", why.text());
         }
+        self.beside.print(name);
     }
 }
 
@@ -89,6 +142,8 @@ impl Sum for Counts {
         add_all(&mut self.refused, other.refused);
         add_all(&mut self.outside, other.outside);
         add_all(&mut self.types, other.types);
+        add_all(&mut self.forms, other.forms);
+        self.beside.add(other.beside);
     }
 }
 
@@ -129,6 +184,9 @@ pub fn print_contents(counts: &Counts) {
         "accepted headers with blocks {}",
         counts.headers_with_blocks
     );
+    for (form, count) in &counts.forms {
+        println!("accepted headers with {form} {count}");
+    }
 }
 
 impl Exclusion {

@@ -1,14 +1,27 @@
 //! What an input shows: labels by which the stored inputs are chosen and named.
 
 use sides::answer::{Header, Row};
-use sides::input::{Input, get};
+use sides::input::{Input, get, padding};
 use sides::rust::Entry;
+use sides::scan::Form;
+
+/// The groups of padded forms.
+const MEMBER_1: &str = "version-1-member";
+const MEMBER_3: &str = "version-3-member";
+const NAME_1: &str = "version-1-name";
 
 /// A group, which names the stored input, and what is shown in it.
 #[derive(Clone, Debug, PartialEq, Eq, PartialOrd, Ord, Hash)]
 pub struct Feature {
     pub group: String,
     pub detail: String,
+}
+
+impl Feature {
+    /// Whether a padded form is what is shown.
+    pub fn is_form(&self) -> bool {
+        [MEMBER_1, MEMBER_3, NAME_1].contains(&self.group.as_str())
+    }
 }
 
 fn feature(group: &str, detail: String) -> Feature {
@@ -41,6 +54,11 @@ fn group_of(kind: u64) -> &'static str {
 const BY_HEADER: std::ops::RangeInclusive<u64> = 4..=7;
 /// Refusals of one message type each; the rest may come anywhere.
 const BY_MESSAGE: std::ops::RangeInclusive<u64> = 9..=19;
+/// Refusals of a padded form: it leaves the file, or has a dimensionality.
+pub const BY_FORMS: [u64; 2] = [3, 11];
+/// The most bytes between a version 1 member's name and the end of its type's first fields: padding,
+/// 4, 28 and 8.
+const MEMBER_AND_TYPE: usize = 7 + 4 + 28 + 8;
 
 /// What a refused input shows: the number, where it arose, and the first bytes there.
 pub fn of_refusal(input: &Input, number: u64, entries: &[Entry]) -> Vec<Feature> {
@@ -175,11 +193,10 @@ fn of_attribute(input: &Input, row: &Row) -> Vec<String> {
     let body = row.body as usize;
     let version = byte(input, body);
     let name_size = input.file.get(body + 2..body + 4).map_or(0, get) as usize;
-    let padding = match name_size {
-        1..8 if version == 1 => 8 - name_size,
-        _ => 0,
+    let at = match version {
+        3 => body + 9 + name_size,
+        _ => body + 8 + name_size + padding(name_size),
     };
-    let at = body + if version == 3 { 9 } else { 8 } + name_size + padding;
     let value = row.part.as_ref().map(Vec::len);
     let presence = match value {
         None => "absent",
@@ -197,6 +214,51 @@ fn of_attribute(input: &Input, row: &Row) -> Vec<String> {
     ];
     details.extend(of_type(input, at));
     details
+}
+
+/// What the padded forms of an input show, beside how they are answered.
+pub fn of_forms(input: &Input, answered: &str, forms: &[Form]) -> Vec<Feature> {
+    let mut features = Vec::new();
+    for form in forms {
+        let (group, mut details) = match *form {
+            Form::Member {
+                version: 1,
+                name,
+                end,
+                ..
+            } => (MEMBER_1, of_early_member(input, name, end)),
+            Form::Member { .. } => (MEMBER_3, Vec::new()),
+            Form::LongName { size } => (NAME_1, of_padding(size)),
+        };
+        details.push(form.to_string());
+        let named = details.iter();
+        features.extend(named.map(|detail| feature(group, format!("{answered} {detail}"))));
+    }
+    features
+}
+
+/// Of a version 1 member: name, dimensionality, reserved bytes, and what is left of a file that ends
+/// before its type does.
+fn of_early_member(input: &Input, name: usize, end: usize) -> Vec<String> {
+    let at = end + padding(name) + 4;
+    let reserved = [1, 2, 3].map(|more| byte(input, at + more)) != [0; 3];
+    let left = input.file.len() - end;
+    let mut details = of_padding(name);
+    details.push(format!(
+        "dimensionality {} {reserved}",
+        few(byte(input, at))
+    ));
+    if left < MEMBER_AND_TYPE {
+        details.push(format!("left {left}"));
+    }
+    details
+}
+
+fn of_padding(bytes: usize) -> Vec<String> {
+    vec![
+        format!("name {bytes}"),
+        format!("padding {}", padding(bytes)),
+    ]
 }
 
 /// Bodies that use more bytes than their size says.

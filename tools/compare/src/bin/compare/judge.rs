@@ -1,16 +1,17 @@
-//! One input: both answers, and what the comparison says of them.
+//! One input: the answers of the port and of both Rusts, and what the comparison says of them.
+//!
+//! The port is compared with the mended Rust. Where no form is found that the published Rust reads
+//! otherwise, the two Rusts must answer alike, so that the port is compared with both.
 
 use sides::answer::{Header, REFUSED};
 use sides::input::Input;
 use sides::port::{self, PlainAnswer, Port};
-use sides::rust::{self, Entry, rust_answer};
-use sides::scan::{self, Outside};
+use sides::rust::{self, Entry, mended, published};
+use sides::scan::{self, Found, Outside};
 
 use crate::breakage::Breakage;
 
-const DATA_TYPE: u8 = 3;
 const LAYOUT: u8 = 8;
-const ATTRIBUTE: u8 = 12;
 
 /// Why an input is outside the comparison.
 #[derive(Clone, Copy, Debug, PartialEq, Eq, PartialOrd, Ord)]
@@ -26,10 +27,17 @@ pub enum Verdict {
     /// With the port's number.
     Refused(u64),
     Outside(Exclusion),
-    /// The Rust panics, with its message, and the port's answer.
-    Panicked(String, String),
-    /// The answers of the port and of the Rust.
-    Differs(String, String),
+    /// A Rust panics; with what the sides say.
+    Panicked(String),
+    /// The sides disagree; with what they say.
+    Differs(String),
+}
+
+pub struct Judged {
+    pub verdict: Verdict,
+    pub found: Found,
+    /// The published Rust's answer, where it is not the mended one's.
+    pub otherwise: Option<rust::Outcome>,
 }
 
 pub struct Judge {
@@ -45,10 +53,10 @@ impl Judge {
         }
     }
 
-    /// A header's answer, broken where it is to be.
-    pub fn broken(&self, outcome: port::Outcome) -> port::Outcome {
+    /// The answer for a header, broken where it is to be.
+    pub fn broken(&self, input: &Input, outcome: port::Outcome) -> port::Outcome {
         match self.breakage {
-            Some(breakage) => breakage.break_header(outcome),
+            Some(breakage) => breakage.break_header(input, outcome),
             None => outcome,
         }
     }
@@ -63,75 +71,133 @@ impl Judge {
     }
 
     pub fn verdict(&mut self, input: &Input) -> Verdict {
+        self.judged(input).verdict
+    }
+
+    pub fn judged(&mut self, input: &Input) -> Judged {
         let answer = self.port.answer(input);
-        let port = self.broken(answer);
+        let port = self.broken(input, answer);
         let widths = 2..=8;
         if !widths.contains(&input.offset_width) || !widths.contains(&input.length_width) {
-            return match port {
-                port::Outcome::Refused(1) => Verdict::Outside(Exclusion::Number(1)),
-                other => Verdict::Differs(port_text(&other), "not asked: a width".into()),
-            };
+            return unasked(&port);
         }
         against_rust(input, port)
     }
 }
 
-/// The verdict on the port's answer for an input whose widths are allowed.
-pub fn against_rust(input: &Input, port: port::Outcome) -> Verdict {
-    let rust = rust_answer(input);
-    if let rust::Outcome::Panicked(message) = rust.outcome {
-        return Verdict::Panicked(message, port_text(&port));
+/// What is said of the port's answer for an input with a width that no Rust takes.
+fn unasked(port: &port::Outcome) -> Judged {
+    let verdict = match port {
+        port::Outcome::Refused(1) => Verdict::Outside(Exclusion::Number(1)),
+        other => Verdict::Differs(format!("port:\n{}Rust:\nnot asked\n", port_text(other))),
+    };
+    Judged {
+        verdict,
+        found: Found::default(),
+        otherwise: None,
     }
-    if let Some(exclusion) = attributes_outside(input, &rust.entries) {
-        return Verdict::Outside(exclusion);
-    }
-    compared(input, port, rust)
 }
 
-/// The verdict on two answers.
-fn compared(input: &Input, port: port::Outcome, rust: rust::Answer) -> Verdict {
-    match (port, rust.outcome) {
-        (port::Outcome::Read(header), rust::Outcome::Read(other)) => {
-            let (ours, theirs) = (header.report(), other.report());
-            if ours == theirs {
-                return Verdict::Accepted(header);
-            }
-            Verdict::Differs(text(&ours), text(&theirs))
+/// What is said of the port's answer for an input whose widths are allowed.
+pub fn against_rust(input: &Input, port: port::Outcome) -> Judged {
+    let mended = mended::rust_answer(input);
+    let answers = Answers {
+        input,
+        port,
+        published: published::rust_answer(input).outcome,
+        found: scan::header(input, &mended.entries),
+        mended: mended.outcome,
+        entries: mended.entries,
+    };
+    answers.judged()
+}
+
+/// All that is said of an input, with the entries that the mended Rust read and what they show.
+struct Answers<'a> {
+    input: &'a Input,
+    port: port::Outcome,
+    published: rust::Outcome,
+    mended: rust::Outcome,
+    entries: Vec<Entry>,
+    found: Found,
+}
+
+impl Answers<'_> {
+    fn judged(self) -> Judged {
+        Judged {
+            verdict: self.verdict(),
+            found: self.found,
+            otherwise: (self.published != self.mended).then_some(self.published),
         }
-        (port::Outcome::Refused(number @ (2 | 14 | 22 | 23 | 24)), outcome) => {
-            if deserved(number, input, &outcome, &rust.entries) {
-                return Verdict::Outside(Exclusion::Number(number));
-            }
-            Verdict::Differs(format!("refused {number}"), rust_text(&outcome))
+    }
+
+    fn verdict(&self) -> Verdict {
+        let panics = |outcome| matches!(outcome, &rust::Outcome::Panicked(_));
+        if panics(&self.published) || panics(&self.mended) {
+            return Verdict::Panicked(self.text());
         }
-        (port::Outcome::Refused(number), rust::Outcome::Refused) => Verdict::Refused(number),
-        (port, outcome) => Verdict::Differs(port_text(&port), rust_text(&outcome)),
+        if self.published != self.mended && !self.found.is_mended() {
+            return Verdict::Differs(self.text());
+        }
+        match self.found.outside {
+            Some(Outside::TypeLevel) => Verdict::Outside(Exclusion::TypeLevel),
+            Some(Outside::Elements) => Verdict::Outside(Exclusion::Elements),
+            None => self.compared(),
+        }
+    }
+
+    /// The verdict on the port's answer and the mended Rust's.
+    fn compared(&self) -> Verdict {
+        match (&self.port, &self.mended) {
+            (port::Outcome::Read(ours), rust::Outcome::Read(theirs))
+                if ours.report() == theirs.report() =>
+            {
+                Verdict::Accepted(ours.clone())
+            }
+            (port::Outcome::Refused(number @ (2 | 14 | 22 | 23 | 24)), _) => {
+                if self.deserved(*number) {
+                    return Verdict::Outside(Exclusion::Number(*number));
+                }
+                Verdict::Differs(self.text())
+            }
+            (port::Outcome::Refused(number), rust::Outcome::Refused) => Verdict::Refused(*number),
+            _ => Verdict::Differs(self.text()),
+        }
+    }
+
+    /// Whether a number that ends the comparison is borne out by what the Rust read up to there.
+    fn deserved(&self, number: u64) -> bool {
+        let file = &self.input.file;
+        let chunked = |body: usize| file.get(body..body + 2) == Some(&[3, 2]);
+        match number {
+            14 => self
+                .entries
+                .iter()
+                .any(|e| e.kind == LAYOUT && chunked(e.body)),
+            22 => self.found.type_too_deep,
+            23 => matches!(self.mended, rust::Outcome::TooMany),
+            2 => file.len() > 1 << 31,
+            _ => false,
+        }
+    }
+
+    /// What each says; the published Rust only where it says something else.
+    fn text(&self) -> String {
+        let mut text = format!("port:\n{}", port_text(&self.port));
+        text += &format!("mended Rust:\n{}", rust_text(&self.mended));
+        if self.published != self.mended {
+            text += &published_text(&self.published);
+        }
+        text
     }
 }
 
-/// Whether a number that ends the comparison is borne out by what the Rust read up to there.
-fn deserved(number: u64, input: &Input, rust: &rust::Outcome, entries: &[Entry]) -> bool {
-    let chunked = |body: usize| input.file.get(body..body + 2) == Some(&[3, 2]);
-    let mut entries = entries.iter();
-    match number {
-        14 => entries.any(|e| e.kind == LAYOUT && chunked(e.body)),
-        22 => entries.any(|e| e.kind == DATA_TYPE && scan::type_too_deep(input, e.body)),
-        23 => matches!(rust, rust::Outcome::TooMany),
-        2 => input.file.len() > 1 << 31,
-        _ => false,
-    }
+/// What the published Rust says, under its name.
+pub fn published_text(outcome: &rust::Outcome) -> String {
+    format!("published Rust:\n{}", rust_text(outcome))
 }
 
-fn attributes_outside(input: &Input, entries: &[Entry]) -> Option<Exclusion> {
-    let mut attributes = entries.iter().filter(|entry| entry.kind == ATTRIBUTE);
-    let outside = attributes.find_map(|entry| scan::attribute(input, entry.body))?;
-    Some(match outside {
-        Outside::TypeLevel => Exclusion::TypeLevel,
-        Outside::Elements => Exclusion::Elements,
-    })
-}
-
-fn text(report: &[u8]) -> String {
+pub fn text(report: &[u8]) -> String {
     report.escape_ascii().to_string().replace("\\n", "\n")
 }
 

@@ -4,7 +4,7 @@
 use sides::answer::SuperBlock;
 use sides::plain::version;
 use sides::port::PlainAnswer;
-use sides::rust::rust_super_block;
+use sides::rust::published::rust_super_block;
 
 use crate::breakage::{Breakage, Change};
 

@@ -6,9 +6,10 @@ use std::borrow::Cow;
 use sides::answer::SuperBlock;
 use sides::plain::{VERSION, end, version};
 use sides::port::Written;
-use sides::rust::{rust_answer, rust_parses, rust_super_block};
+use sides::rust::mended;
+use sides::rust::published::{rust_answer, rust_parses, rust_super_block};
 
-use crate::judge::{Judge, Verdict, against_rust, port_text, rust_text};
+use crate::judge::{Judge, Judged, Verdict, against_rust, port_text, rust_text};
 
 const LARGEST_FILE: usize = 1 << 31;
 
@@ -23,25 +24,28 @@ pub enum PlainExclusion {
 }
 
 pub enum PlainVerdict {
-    /// Both read the same superblock, of this version; the verdict is on the root header.
-    Read(u8, Verdict),
+    /// Both read the same superblock, of this version; the rest is of the root header.
+    Read(u8, Judged),
     /// Both refuse the superblock, the port with this number.
     Refused(u64),
     Outside(PlainExclusion),
-    /// What the port says, and what the Rust.
-    Differs(String, String),
+    /// With what both say.
+    Differs(String),
 }
 
 impl PlainVerdict {
     pub fn differs(&self) -> bool {
-        matches!(
-            self,
-            PlainVerdict::Differs(..) | PlainVerdict::Read(_, Verdict::Differs(..))
-        )
+        match self {
+            PlainVerdict::Read(_, root) => matches!(root.verdict, Verdict::Differs(_)),
+            other => matches!(other, PlainVerdict::Differs(_)),
+        }
     }
 
     pub fn panicked(&self) -> bool {
-        matches!(self, PlainVerdict::Read(_, Verdict::Panicked(..)))
+        match self {
+            PlainVerdict::Read(_, root) => matches!(root.verdict, Verdict::Panicked(_)),
+            _ => false,
+        }
     }
 }
 
@@ -67,20 +71,25 @@ impl Judge {
             return unlike_by_hand(&answer.root, &answer.by_hand);
         }
         if version(file) == Some(3) && rust_super_block(file).is_some() {
-            return PlainVerdict::Differs(block_text(ours), "it reads version 3\n".into());
+            return differ(&block_text(ours), "it reads version 3\n");
         }
         match (ours, rust_super_block(&as_version_2(file))) {
             (Ok(block), Some(theirs)) if *block == theirs && due(file, block) => {
-                let root = self.broken(answer.root.outcome(file));
-                PlainVerdict::Read(file[VERSION], against_rust(&block.input(file), root))
+                let input = block.input(file);
+                let root = self.broken(&input, answer.root.outcome(file));
+                PlainVerdict::Read(file[VERSION], against_rust(&input, root))
             }
             (Ok(block), Some(theirs)) if *block == theirs => {
-                PlainVerdict::Differs(block_text(ours), "the port has to refuse it\n".into())
+                differ(&block_text(ours), "the port has to refuse it\n")
             }
             (Err(number), theirs) => refused(file, *number, theirs),
-            (_, theirs) => differs(ours, theirs),
+            (_, theirs) => blocks_differ(ours, theirs),
         }
     }
+}
+
+fn differ(port: &str, rust: &str) -> PlainVerdict {
+    PlainVerdict::Differs(format!("port:\n{port}Rust:\n{rust}"))
 }
 
 /// The root operation writes something else than the call by hand: the first word of it.
@@ -94,9 +103,9 @@ fn unlike_by_hand(root: &Written, by_hand: &Written) -> PlainVerdict {
     let table = first(&root.table, &by_hand.table);
     let place = if object.is_some() { "object" } else { "table" };
     let (at, ours, theirs) = object.or(table).expect("words that differ");
-    PlainVerdict::Differs(
-        format!("the root operation has {ours} as word {at} of the {place}\n"),
-        format!("not asked; the port by hand has {theirs}\n"),
+    differ(
+        &format!("the root operation has {ours} as word {at} of the {place}\n"),
+        &format!("not asked; the port by hand has {theirs}\n"),
     )
 }
 
@@ -120,18 +129,18 @@ fn refused(file: &[u8], number: u64, theirs: Option<SuperBlock>) -> PlainVerdict
     let early = matches!(version(file), Some(0 | 1));
     match (number, theirs) {
         (2, _) if file.len() > LARGEST_FILE => PlainVerdict::Outside(PlainExclusion::FileSize),
-        (2, theirs) => differs(&Err(number), theirs),
+        (2, theirs) => blocks_differ(&Err(number), theirs),
         (26, Some(_)) if early => PlainVerdict::Outside(PlainExclusion::EarlyVersion),
         (3, Some(block)) if !early && !due(file, &block) => {
             PlainVerdict::Outside(PlainExclusion::NoChecksum)
         }
         (_, None) => PlainVerdict::Refused(number),
-        (_, theirs) => differs(&Err(number), theirs),
+        (_, theirs) => blocks_differ(&Err(number), theirs),
     }
 }
 
-fn differs(ours: &Result<SuperBlock, u64>, theirs: Option<SuperBlock>) -> PlainVerdict {
-    PlainVerdict::Differs(block_text(ours), rust_block_text(theirs.as_ref()))
+fn blocks_differ(ours: &Result<SuperBlock, u64>, theirs: Option<SuperBlock>) -> PlainVerdict {
+    differ(&block_text(ours), &rust_block_text(theirs.as_ref()))
 }
 
 fn block_text(block: &Result<SuperBlock, u64>) -> String {
@@ -145,16 +154,20 @@ fn rust_block_text(block: Option<&SuperBlock>) -> String {
     block.map_or("superblock refused\n".into(), SuperBlock::report)
 }
 
-/// Both sides' superblock and root header, and whether the Rust's `parse` takes the file.
+/// The superblock and root header of all sides, and whether the Rust's `parse` takes the file.
 pub fn plain_text(judge: &mut Judge, file: &[u8]) -> String {
     let answer = judge.plain_answer(file);
-    let port = port_text(&judge.broken(answer.root.outcome(file)));
+    let root = answer.root.outcome(file);
+    let root = match &answer.super_block {
+        Ok(block) => judge.broken(&block.input(file), root),
+        Err(_) => root,
+    };
     let parse = if rust_parses(file) {
         "takes"
     } else {
         "refuses"
     };
-    let mut text = format!("port:\n{}{port}", block_text(&answer.super_block));
+    let mut text = format!("port:\n{}", block_text(&answer.super_block)) + &port_text(&root);
     text += &format!("Rust:\n{}", rust_plain_text(file, file));
     if version(file) == Some(3) {
         let given = as_version_2(file);
@@ -163,12 +176,18 @@ pub fn plain_text(judge: &mut Judge, file: &[u8]) -> String {
     text + &format!("`parse` of the Rust {parse} the file\n")
 }
 
-/// The Rust's superblock, and the root header that it leads to.
+/// The Rust's superblock, and the root header that it leads to; that of the mended Rust too where
+/// it is another.
 fn rust_plain_text(given: &[u8], file: &[u8]) -> String {
-    let block = rust_super_block(given);
-    let root = block.as_ref().map(|block| {
-        let answer = rust_answer(&block.input(file));
-        rust_text(&answer.outcome)
-    });
-    rust_block_text(block.as_ref()) + &root.unwrap_or_default()
+    let Some(block) = rust_super_block(given) else {
+        return rust_block_text(None);
+    };
+    let input = block.input(file);
+    let published = rust_answer(&input).outcome;
+    let mended = mended::rust_answer(&input).outcome;
+    let mut text = block.report() + &rust_text(&published);
+    if mended != published {
+        text += &format!("mended Rust, of the root header:\n{}", rust_text(&mended));
+    }
+    text
 }

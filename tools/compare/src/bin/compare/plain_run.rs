@@ -9,7 +9,7 @@ use sides::input::digits;
 use sides::real;
 
 use crate::arguments::Arguments;
-use crate::counts::{Counts, Sum, add_all, count, print_refused};
+use crate::counts::{Beside, Counts, Sum, add_all, count, print_refused};
 use crate::judge::{Judge, Verdict};
 use crate::plain_judge::{PlainExclusion, PlainVerdict, plain_text};
 use crate::run::{keep, over_threads, print_answers, print_speed};
@@ -50,11 +50,12 @@ impl Plain {
         self.differing + self.roots.differing
     }
 
-    fn print(&self, real: usize, start: Instant) {
+    fn print(&self, real: usize, beside: &Beside, start: Instant) {
         println!(
             "\nplain files {}, {real} of them real files as they are",
             self.files
         );
+        beside.print("root headers of real files as they are ");
         print_speed(self.files, "files", start);
         println!(
             "superblocks read by both {}",
@@ -101,6 +102,7 @@ pub fn plain(arguments: &Arguments, count: u64) -> io::Result<bool> {
     for file in &real {
         plain.count(file, &judge.plain_verdict(file));
     }
+    let beside = plain.roots.beside.clone();
     plain.add(over_threads(
         arguments,
         count,
@@ -110,7 +112,7 @@ pub fn plain(arguments: &Arguments, count: u64) -> io::Result<bool> {
             });
         },
     ));
-    plain.print(real.len(), start);
+    plain.print(real.len(), &beside, start);
     plain.shown.sort_by_key(Vec::len);
     for file in plain.shown.iter().take(arguments.shown) {
         print_smallest(&mut judge, file);
@@ -136,9 +138,11 @@ fn print_smallest(judge: &mut Judge, file: &[u8]) {
 fn print_verdict(verdict: &PlainVerdict) {
     match verdict {
         PlainVerdict::Read(_, root) => print_answers(root),
-        PlainVerdict::Refused(number) => println!("both:\nrefused, by the port with {number}"),
+        PlainVerdict::Refused(number) => {
+            println!("port and Rust:\nrefused, by the port with {number}");
+        }
         PlainVerdict::Outside(why) => println!("outside the comparison: {}", why.text()),
-        PlainVerdict::Differs(port, rust) => print!("port:\n{port}Rust:\n{rust}"),
+        PlainVerdict::Differs(text) => print!("{text}"),
     }
 }
 
@@ -155,17 +159,22 @@ pub fn file(arguments: &Arguments) -> io::Result<bool> {
 
 fn summary(verdict: &PlainVerdict) -> String {
     match verdict {
-        PlainVerdict::Read(_, Verdict::Accepted(_)) => "both accept".into(),
-        PlainVerdict::Read(_, Verdict::Refused(number)) => {
-            format!("both refuse the root header, the port with {number}")
-        }
-        PlainVerdict::Read(_, Verdict::Outside(why)) => {
-            format!("the root header is outside the comparison: {}", why.text())
-        }
+        PlainVerdict::Read(_, root) => root_summary(&root.verdict),
         PlainVerdict::Refused(number) => {
             format!("both refuse the superblock, the port with {number}")
         }
         PlainVerdict::Outside(why) => format!("outside the comparison: {}", why.text()),
-        PlainVerdict::Read(..) | PlainVerdict::Differs(..) => "they disagree".into(),
+        PlainVerdict::Differs(_) => "they disagree".into(),
+    }
+}
+
+fn root_summary(root: &Verdict) -> String {
+    match root {
+        Verdict::Accepted(_) => "both accept".into(),
+        Verdict::Refused(number) => format!("both refuse the root header, the port with {number}"),
+        Verdict::Outside(why) => {
+            format!("the root header is outside the comparison: {}", why.text())
+        }
+        Verdict::Panicked(_) | Verdict::Differs(_) => "they disagree".into(),
     }
 }

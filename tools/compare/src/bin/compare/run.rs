@@ -11,8 +11,8 @@ use sides::real;
 use sides::rust::STACK;
 
 use crate::arguments::Arguments;
-use crate::counts::{Counts, Sum, print_contents};
-use crate::judge::{Judge, Verdict};
+use crate::counts::{Beside, Counts, Sum, print_contents};
+use crate::judge::{Judge, Judged, Verdict, published_text, text};
 use crate::plain_run;
 use crate::shrink::shrink;
 
@@ -30,9 +30,9 @@ struct Headers {
 }
 
 impl Headers {
-    fn count(&mut self, input: &Input, verdict: &Verdict) {
-        self.counts.count(verdict);
-        if matches!(verdict, Verdict::Panicked(..) | Verdict::Differs(..)) {
+    fn count(&mut self, input: &Input, judged: &Judged) {
+        self.counts.count(judged);
+        if matches!(judged.verdict, Verdict::Panicked(_) | Verdict::Differs(_)) {
             keep(&mut self.shown, input);
         }
     }
@@ -71,24 +71,32 @@ fn headers(arguments: &Arguments, count: u64) -> io::Result<bool> {
     let start = Instant::now();
     let mut headers = Headers::default();
     let mut judge = Judge::new(arguments.breakage);
-    for input in real.iter().chain(&large::inputs()) {
-        headers.count(input, &judge.verdict(input));
+    for input in &real {
+        headers.count(input, &judge.judged(input));
+    }
+    let beside = headers.counts.beside.clone();
+    for input in &large::inputs() {
+        headers.count(input, &judge.judged(input));
     }
     headers.add(over_threads(
         arguments,
         count,
         &|number, judge, headers: &mut Headers| {
             batch(arguments.seed, number, &real, &mut |input| {
-                headers.count(input, &judge.verdict(input));
+                headers.count(input, &judge.judged(input));
             });
         },
     ));
-    print_counts(&headers.counts, real.len(), start);
+    print_counts(&headers.counts, real.len(), &beside, start);
     headers.shown.sort_by_key(|input| input.file.len());
     for input in headers.shown.iter().take(arguments.shown) {
         print_smallest(&mut judge, input);
     }
-    Ok(headers.counts.differing == 0 && headers.counts.panicked == 0)
+    let shows_patch = headers.counts.beside.shows_patch();
+    if !shows_patch {
+        println!("the published Rust answers nothing otherwise than the mended one");
+    }
+    Ok(headers.counts.differing == 0 && headers.counts.panicked == 0 && shows_patch)
 }
 
 /// All batches of so many inputs, over the threads: `work` compares the batch of a number.
@@ -124,11 +132,12 @@ pub fn over_threads<T: Sum>(
     counts
 }
 
-fn print_counts(counts: &Counts, real: usize, start: Instant) {
+fn print_counts(counts: &Counts, real: usize, beside: &Beside, start: Instant) {
     println!(
         "inputs {}, {real} of them headers of real files as they are",
         counts.headers
     );
+    beside.print("headers of real files as they are ");
     print_speed(counts.headers, "inputs", start);
     counts.print("");
     println!("panics of the Rust {}", counts.panicked);
@@ -144,32 +153,26 @@ pub fn print_speed(count: u64, name: &str, start: Instant) {
 
 /// Shrinks an input that disagrees or panics, and prints it with both answers.
 fn print_smallest(judge: &mut Judge, input: &Input) {
-    let panics = matches!(judge.verdict(input), Verdict::Panicked(..));
+    let panics = matches!(judge.verdict(input), Verdict::Panicked(_));
     let smallest = shrink(input, &mut |smaller| match judge.verdict(smaller) {
-        Verdict::Panicked(..) => panics,
-        Verdict::Differs(..) => !panics,
+        Verdict::Panicked(_) => panics,
+        Verdict::Differs(_) => !panics,
         _ => false,
     });
     println!("\ninput {}", smallest.hex());
-    print_answers(&judge.verdict(&smallest));
+    print_answers(&judge.judged(&smallest));
 }
 
-pub fn print_answers(verdict: &Verdict) {
-    match verdict {
-        Verdict::Differs(port, rust) => print!("port:\n{port}Rust:\n{rust}"),
-        Verdict::Panicked(message, port) => println!("port:\n{port}Rust:\npanics: {message}"),
-        Verdict::Accepted(header) => {
-            print!(
-                "both:\n{}",
-                header
-                    .report()
-                    .escape_ascii()
-                    .to_string()
-                    .replace("\\n", "\n")
-            );
-        }
-        Verdict::Refused(number) => println!("both:\nrefused, by the port with {number}"),
+/// Prints what is said of an input; what the published Rust says only where it is something else.
+pub fn print_answers(judged: &Judged) {
+    match &judged.verdict {
+        Verdict::Differs(text) | Verdict::Panicked(text) => return print!("{text}"),
+        Verdict::Accepted(header) => print!("port and Rust:\n{}", text(&header.report())),
+        Verdict::Refused(number) => println!("port and Rust:\nrefused, by the port with {number}"),
         Verdict::Outside(why) => println!("outside the comparison: {}", why.text()),
+    }
+    if let Some(outcome) = &judged.otherwise {
+        print!("{}", published_text(outcome));
     }
 }
 
@@ -180,10 +183,10 @@ pub fn one(arguments: &Arguments) -> io::Result<bool> {
     let Some(input) = Input::from_bytes(&bytes) else {
         return Err(io::Error::other("fewer than 18 lead bytes"));
     };
-    let verdict = Judge::new(arguments.breakage).verdict(&input);
-    print_answers(&verdict);
+    let judged = Judge::new(arguments.breakage).judged(&input);
+    print_answers(&judged);
     Ok(!matches!(
-        verdict,
-        Verdict::Differs(..) | Verdict::Panicked(..)
+        judged.verdict,
+        Verdict::Differs(_) | Verdict::Panicked(_)
     ))
 }

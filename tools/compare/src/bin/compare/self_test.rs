@@ -68,7 +68,7 @@ fn report(breakage: &Breakage, what: &str, found: Option<Found>) -> bool {
 
 fn in_headers(seed: u64, most: u64, breakage: &'static Breakage) -> Option<Found> {
     let differs =
-        |judge: &mut Judge, input: &Input| matches!(judge.verdict(input), Verdict::Differs(..));
+        |judge: &mut Judge, input: &Input| matches!(judge.verdict(input), Verdict::Differs(_));
     let mut judge = Judge::new(Some(breakage));
     let mut broken = |input: &Input| differs(&mut judge, input);
     let batch = |number, show: &mut dyn FnMut(&Input)| batch(seed, number, &[], show);

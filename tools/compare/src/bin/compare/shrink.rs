@@ -5,7 +5,8 @@ use std::ops::Range;
 use sides::answer::SuperBlock;
 use sides::input::{Input, get};
 use sides::plain::{address, version};
-use sides::rust::{Entry, rust_answer, rust_super_block};
+use sides::rust::Entry;
+use sides::rust::mended::{rust_answer, rust_super_block};
 
 use crate::plain_judge::as_version_2;
 
@@ -233,7 +234,7 @@ impl Count {
     }
 }
 
-/// The numbers that count bytes, as far as the Rust reads.
+/// The numbers that count bytes, as far as the mended Rust reads.
 fn counts(input: &Input) -> Vec<Count> {
     let Some(flags) = input.file.get((input.position as usize).saturating_add(5)) else {
         return Vec::new();

@@ -1,4 +1,4 @@
-//! Inputs with the Rust's answers, chosen so that they show as much as few and small ones can.
+//! Inputs with the answers of the Rusts, chosen so that they show as much as few and small ones can.
 
 use std::collections::{BTreeMap, HashSet};
 use std::io;
@@ -9,11 +9,12 @@ use sides::generate::{BATCH, batch};
 use sides::input::Input;
 use sides::random::Random;
 use sides::real;
-use sides::rust::{self, rust_answer};
+use sides::rust::{self, mended};
+use sides::scan;
 
 use crate::arguments::Arguments;
-use crate::features::{Feature, of_header, of_refusal};
-use crate::judge::{Judge, Verdict};
+use crate::features::{BY_FORMS, Feature, of_forms, of_header, of_refusal};
+use crate::judge::{Judge, Judged, Verdict};
 
 const COUNT: u64 = 4000;
 const BYTES: usize = 1_500_000;
@@ -26,8 +27,15 @@ const OVERHEAD: usize = 48;
 
 /// The inputs that show each feature, by size.
 type Shown = BTreeMap<Feature, Vec<Input>>;
-/// Group, input and report.
-type Chosen = (String, Input, Vec<u8>);
+
+/// An input that is stored.
+struct Chosen {
+    group: String,
+    input: Input,
+    /// Who answers so: both Rusts, or the mended one alone.
+    by: &'static str,
+    report: Vec<u8>,
+}
 
 /// Writes the store. It is refused, and nothing is written, where the two sides disagree.
 pub fn store(arguments: &Arguments, path: &Path) -> io::Result<bool> {
@@ -61,20 +69,37 @@ pub fn store(arguments: &Arguments, path: &Path) -> io::Result<bool> {
 
 /// Notes what an input shows. False where the sides disagree.
 fn note(shown: &mut Shown, judge: &mut Judge, input: &Input) -> bool {
-    let features = match judge.verdict(input) {
-        Verdict::Accepted(header) if header.rows.len() <= MOST_ROWS && header.is_utf8() => {
-            of_header(input, &header)
-        }
-        Verdict::Refused(number) => of_refusal(input, number, &rust_answer(input).entries),
-        Verdict::Accepted(_) | Verdict::Outside(_) => Vec::new(),
-        Verdict::Panicked(..) | Verdict::Differs(..) => return false,
-    };
+    let judged = judge.judged(input);
+    if matches!(judged.verdict, Verdict::Panicked(_) | Verdict::Differs(_)) {
+        return false;
+    }
     if input.to_bytes().len() <= MOST_BYTES {
-        for feature in features {
+        for feature in features(input, &judged) {
             keep(shown.entry(feature).or_default(), input);
         }
     }
     true
+}
+
+/// What an input shows, if it may be stored.
+fn features(input: &Input, judged: &Judged) -> Vec<Feature> {
+    let found = &judged.found;
+    match &judged.verdict {
+        Verdict::Accepted(header) if header.rows.len() <= MOST_ROWS && header.is_utf8() => {
+            let mut features = of_header(input, header);
+            features.extend(of_forms(input, "accepted", &found.forms));
+            features.extend(of_forms(input, "failing", &found.failed));
+            features
+        }
+        Verdict::Refused(number) => {
+            let mut features = of_refusal(input, *number, &mended::rust_answer(input).entries);
+            if BY_FORMS.contains(number) {
+                features.extend(of_forms(input, &format!("refused {number}"), &found.failed));
+            }
+            features
+        }
+        _ => Vec::new(),
+    }
 }
 
 /// Keeps an input among the smallest.
@@ -96,23 +121,24 @@ fn choose(shown: &Shown, seed: u64, count: usize) -> Vec<Chosen> {
         if chosen.len() == count || !taken.insert(input) {
             continue;
         }
-        let report = report(input);
-        let room = input.to_bytes().len() + report.len() + OVERHEAD;
+        let one = answered(feature, input);
+        let room = input.to_bytes().len() + one.report.len() + OVERHEAD;
         if bytes + room <= BYTES {
             bytes += room;
-            chosen.push((feature.group.clone(), input.clone(), report));
+            chosen.push(one);
         }
     }
-    chosen.sort_by_key(|(group, input, _)| (group.clone(), input.file.len()));
+    chosen.sort_by_key(|one| (one.group.clone(), one.input.file.len()));
     chosen
 }
 
-/// Features in a random order, so that none is left out for its name alone, rank by rank.
+/// Features in a random order, so that none is left out for its name alone, rank by rank. Those of
+/// padded forms come first: they are few, and there is not room for all others.
 fn ranked(shown: &Shown, seed: u64) -> Vec<(&Feature, &Input)> {
     let mut random = Random::new(seed, u64::MAX);
     let mut features: Vec<_> = shown
         .iter()
-        .map(|feature| (random.number(), feature))
+        .map(|shown| ((!shown.0.is_form(), random.number()), shown))
         .collect();
     features.sort_by_key(|(order, _)| *order);
     let at_rank = |rank: usize| {
@@ -122,20 +148,28 @@ fn ranked(shown: &Shown, seed: u64) -> Vec<(&Feature, &Input)> {
     (0..KEPT).flat_map(at_rank).collect()
 }
 
-/// The Rust's answer.
-fn report(input: &Input) -> Vec<u8> {
-    match rust_answer(input).outcome {
-        rust::Outcome::Read(header) => header.report(),
-        _ => REFUSED.to_vec(),
+/// An input with the group of its feature, and the mended Rust's answer. It is the published one's
+/// too, or the sides would disagree, where there is no form that the two read otherwise.
+fn answered(feature: &Feature, input: &Input) -> Chosen {
+    let answer = mended::rust_answer(input);
+    let found = scan::header(input, &answer.entries);
+    Chosen {
+        group: feature.group.clone(),
+        input: input.clone(),
+        by: if found.is_mended() { "mended" } else { "both" },
+        report: match answer.outcome {
+            rust::Outcome::Read(header) => header.report(),
+            _ => REFUSED.to_vec(),
+        },
     }
 }
 
 /// Name, input and report of each, every one behind its length in 4 bytes.
 fn records(chosen: &[Chosen]) -> Vec<u8> {
     let mut bytes = Vec::new();
-    for (number, (group, input, report)) in chosen.iter().enumerate() {
-        let name = format!("{group}-{number:04}");
-        for part in [name.as_bytes(), &input.to_bytes(), report] {
+    for (number, one) in chosen.iter().enumerate() {
+        let name = format!("{} {}-{number:04}", one.by, one.group);
+        for part in [name.as_bytes(), &one.input.to_bytes(), &one.report] {
             bytes.extend((part.len() as u32).to_le_bytes());
             bytes.extend(part);
         }

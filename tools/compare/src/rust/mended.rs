@@ -1,0 +1,7 @@
+//! The Rust with `mended.patch`.
+
+use crate::hdf_mended as hdf;
+
+#[path = "copy.rs"]
+mod copy;
+pub use copy::*;
