@@ -51,7 +51,8 @@ pub fn open() {
     }
 }
 
-/// The answer of a reading, with the entries that are heard on its way.
+/// The answer of a reading, with the entries that are heard on its way. A test of this tool that
+/// fails on it counts as a panic too.
 fn answer_of<R>(
     reading: impl FnOnce() -> ModalResult<R>,
     header: impl FnOnce(R, &[Entry]) -> Header,
@@ -59,8 +60,10 @@ fn answer_of<R>(
     listen();
     let read = catch_unwind(AssertUnwindSafe(reading));
     let entries = heard();
+    let to_header = |read: ModalResult<R>| read.map(|reading| header(reading, &entries));
+    let read = read.and_then(|read| catch_unwind(AssertUnwindSafe(|| to_header(read))));
     let outcome = match read {
-        Ok(Ok(reading)) => Outcome::Read(Box::new(header(reading, &entries))),
+        Ok(Ok(header)) => Outcome::Read(Box::new(header)),
         Ok(Err(_)) => Outcome::Refused,
         Err(thrown) if thrown.is::<TooMany>() => Outcome::TooMany,
         Err(thrown) => Outcome::Panicked(message_of(thrown)),
