@@ -1,5 +1,6 @@
--- Names and texts: what their lengths are found to be is what holds of them, and nothing else does. Numbers are below their bits. Assumes nothing.
-use Prim.Native.Nat.{ℕ, zero, suc, _+_, _-_, _*_, _^_, _≤_, _<_}
+-- Names and texts: what their lengths are found to be is what holds of them, and nothing else does. Numbers are below their bits. Padding
+-- ends at a multiple of 8. Assumes nothing.
+use Prim.Native.Nat.{ℕ, zero, suc, _+_, _-_, _*_, _%_, _^_, _≤_, _<_}
 use mathlib.Core.Path.{_≡_, refl, ap, sym, _∙_}
 use mathlib.Core.Logic.{_⊎_, inl, inr, ⊎-elim}
 use mathlib.Core.Bool.{Bool, true, false, _&&_, _||_}
@@ -11,7 +12,7 @@ use native.Mathlib.Nat.{add-zero, zero-add, mul-assoc}
 use lib.Pow.{pow-add}
 use borrow.Author.Tests.{eq-eqb, ne-eqb, eqb-true, eqb-false, lt-ltb, le-ltb, ltb-true, le-leb, lt-leb, leb-true, leb-false}
 use Rattle.format.specs.Bools.{and-left, and-right, and-none}
-use Rattle.format.specs.Bytes.{le, Named, Trimmed, nameLength, textLength}
+use Rattle.format.specs.Bytes.{le, Named, Trimmed, nameLength, textLength, toMultipleOf8}
 use Rattle.format.specs.Format.{nameEnds}
 
 -- by whether a byte is zero
@@ -195,3 +196,7 @@ module _ (s : List ℕ) where
   trimmed-only p (suc n) l r = by-zero (getD s (p + n) 0)
       (λ e. text-zero p n e ∙ trimmed-only p n l (trim-less p n l e r))
       (λ e. text-last p n e ∙ by-le l n (λ h. absurd (e (r .zeros n h (omega arith)))) (λ h. omega (arith, r .within)))
+
+-- padding brings n bytes to a multiple of 8, and to the next one
+pub padded-to-8 : (n : ℕ) → ((n + toMultipleOf8 n) % 8 ≡ 0) × (toMultipleOf8 n < 8)
+padded-to-8 n = (omega arith, omega arith)

@@ -2,10 +2,10 @@
 use Prim.Native.Nat.{ℕ, suc, _+_, _-_, _%_}
 use mathlib.Core.Path.{_≡_, ap, sym, _∙_}
 use mathlib.Core.Bool.{false}
+use mathlib.Core.List.{List}
 use native.Mathlib.Omega.{arith}
 use lib.Bits.{bitAnd, and-mask}
 use lib.Dec.{eqb}
-use mathlib.Core.List.{List}
 use borrow.Author.Tests.{ne-eqb}
 use Rattle.format.specs.Bytes.{toMultipleOf8}
 use Rattle.format.specs.Format.{Format, refuse, number, skip, nothing, read}

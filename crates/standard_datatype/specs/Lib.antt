@@ -4,5 +4,6 @@ pub mod Members
 pub mod Ties
 pub mod ReadTypes
 pub mod Reads
+pub mod SampleTypes
 pub mod Rules
 pub mod Samples

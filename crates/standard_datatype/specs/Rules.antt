@@ -2,9 +2,8 @@
 -- those of docs/DIFFERENCES.md, part one. Assumes nothing.
 use Prim.Native.Nat.{ℕ}
 use mathlib.Core.Path.{_≡_, refl}
-use mathlib.Core.List.{List, [], _∷_, _++_}
+use mathlib.Core.List.{[], _∷_, _++_}
 use native.Mathlib.Omega.{arith}
-use lib.ListN.{replicate}
 use Rattle.format.specs.Bytes.{le, nameLength}
 use Rattle.format.specs.Format.{read, bind, times}
 use Rattle.ohdr_datatype.specs.DataTypes.{knownClass, knownType, dataTypeHeader, fixedProperties, floatProperties, floatIs, ieee, floatFormat, memberFields, plain, listProperties, typeLayer, dataType}
@@ -13,17 +12,11 @@ use Rattle.standard.specs.Untested.{Untested}
 use Rattle.standard.specs.Versions.{marked}
 use Rattle.standard.specs.Datatypes.{DatatypeHeader, datatypeHeader, fixedPoint, floatingPoint, terminated, member1, member3, version-1, version-3, member, Datatype, datatype, Properties, fixed-point, floating-point, no-properties, members, parent-type, no-members, more-members, membersOf, compound, properties, datatypeOf, datatypeMessage}
 use Rattle.standard.specs.DatatypeRules.{ValidClassBits, ValidNumber, ValidParentType, ValidMembers, ValidMembers1, Each}
+use Rattle.standard_datatype.specs.SampleTypes.{string4, theString4, aMember1, theCompound1, compound1}
 
 -- a rule on each datatype message, also inside another, that is not tested
 abbrev pub NotTested : (DatatypeHeader → Properties → Type 0) → Type 0
 NotTested rule = Untested (λ _ t. Each rule t) (dataType 32) (datatypeMessage 4095 32)
-
--- a string of 4 bytes
-abbrev string4 : List ℕ
-string4 = 0x13 ∷ 0 ∷ 0 ∷ 0 ∷ 4 ∷ 0 ∷ 0 ∷ 0 ∷ []
-
-abbrev theString4 : Datatype
-theString4 = datatype (record { class-and-version = 0x13; class-bit-field = 0; size = 4 }) no-properties
 
 -- 33: a number of one byte with a reserved bit
 pub class-bits-untested : NotTested (λ h _. ValidClassBits h)
@@ -98,34 +91,12 @@ members-untested =
       broken = λ v. omega (arith, v .0 .0);
     }
 
--- a compound of version 1 and 4 bytes with a member `n`, in whose padding, reserved bytes and permutation these stand
-abbrev compound1 : ℕ → ℕ → ℕ → ℕ → List ℕ
-compound1 padding reserved permutation reserved-2 =
-    (0x16 ∷ 1 ∷ 0 ∷ 0 ∷ 4 ∷ 0 ∷ 0 ∷ 0 ∷ []) ++ (0x6E ∷ 0 ∷ padding ∷ 0 ∷ 0 ∷ 0 ∷ 0 ∷ 0 ∷ [])
-    ++ (0 ∷ 0 ∷ 0 ∷ 0 ∷ 0 ∷ reserved ∷ 0 ∷ 0 ∷ permutation ∷ 0 ∷ 0 ∷ 0 ∷ reserved-2 ∷ 0 ∷ 0 ∷ 0 ∷ []) ++ replicate 16 0 ++ string4
-
-abbrev theCompound1 : ℕ → ℕ → ℕ → ℕ → Datatype
-theCompound1 padding reserved permutation reserved-2 =
-    datatype (record { class-and-version = 0x16; class-bit-field = 1; size = 4 }) (members (more-members (version-1 (record {
-      name = record { position = 8; length = 1 };
-      name-padding = padding;
-      byte-offset-of-member = 0;
-      dimensionality = 0;
-      reserved-after-dimensionality = reserved;
-      dimension-permutation = permutation;
-      reserved-after-permutation = reserved-2;
-      dimension-1-size = 0;
-      dimension-2-size = 0;
-      dimension-3-size = 0;
-      dimension-4-size = 0;
-    })) theString4 no-members))
-
 -- 108: padding of the name, reserved bytes, permutation and the other reserved bytes of a version 1 member, each once other than zero
 pub members-of-version-1-untested : NotTested ValidMembers1 × NotTested ValidMembers1 × NotTested ValidMembers1 × NotTested ValidMembers1
 unfolding read bind times le nameLength marked datatypeHeader terminated member1 member membersOf compound properties datatypeOf datatypeMessage knownClass knownType dataTypeHeader memberFields ours.member1 ours.member plain ours.properties typeLayer dataType
 members-of-version-1-untested = (
-  record { file = compound1 1 0 0 0; end = 56; message = theCompound1 1 0 0 0; read-here = refl; standard = refl; broken = λ v. let e : _≡_ {A = ℕ} 1 0 = v .0 .0 .name-padding in omega arith },
-  record { file = compound1 0 1 0 0; end = 56; message = theCompound1 0 1 0 0; read-here = refl; standard = refl; broken = λ v. let e : _≡_ {A = ℕ} 1 0 = v .0 .0 .reserved-after-dimensionality in omega arith },
-  record { file = compound1 0 0 1 0; end = 56; message = theCompound1 0 0 1 0; read-here = refl; standard = refl; broken = λ v. let e : _≡_ {A = ℕ} 1 0 = v .0 .0 .dimension-permutation in omega arith },
-  record { file = compound1 0 0 0 1; end = 56; message = theCompound1 0 0 0 1; read-here = refl; standard = refl; broken = λ v. let e : _≡_ {A = ℕ} 1 0 = v .0 .0 .reserved-after-permutation in omega arith },
+  record { file = compound1 (aMember1 1 0 0 0 0); end = 56; message = theCompound1 (aMember1 1 0 0 0 0); read-here = refl; standard = refl; broken = λ v. let e : _≡_ {A = ℕ} 1 0 = v .0 .0 .name-padding in omega arith },
+  record { file = compound1 (aMember1 0 0 1 0 0); end = 56; message = theCompound1 (aMember1 0 0 1 0 0); read-here = refl; standard = refl; broken = λ v. let e : _≡_ {A = ℕ} 1 0 = v .0 .0 .reserved-after-dimensionality in omega arith },
+  record { file = compound1 (aMember1 0 0 0 1 0); end = 56; message = theCompound1 (aMember1 0 0 0 1 0); read-here = refl; standard = refl; broken = λ v. let e : _≡_ {A = ℕ} 1 0 = v .0 .0 .dimension-permutation in omega arith },
+  record { file = compound1 (aMember1 0 0 0 0 1); end = 56; message = theCompound1 (aMember1 0 0 0 0 1); read-here = refl; standard = refl; broken = λ v. let e : _≡_ {A = ℕ} 1 0 = v .0 .0 .reserved-after-permutation in omega arith },
 )

@@ -119,8 +119,8 @@ impl Counts {
 
     /// Prints the outcomes of headers that have a name.
     pub fn print(&self, name: &str) {
-        println!("{name}accepted by both {}", self.accepted);
-        print_refused(&format!("{name}refused by both"), &self.refused);
+        println!("{name}accepted by port and mended Rust {}", self.accepted);
+        print_refused(&format!("{name}refused by port and mended Rust"), &self.refused);
         let outside: u64 = self.outside.values().sum();
         println!("{name}outside the comparison {outside}");
         for (why, count) in &self.outside {

@@ -18,12 +18,12 @@ use crate::shrink::shrink_plain;
 #[derive(Default)]
 struct Plain {
     files: u64,
-    /// Superblocks that both read, by version.
+    /// Superblocks that port and Rust read, by version.
     read: BTreeMap<u8, u64>,
     refused: BTreeMap<u64, u64>,
     outside: BTreeMap<PlainExclusion, u64>,
     differing: u64,
-    /// The root headers behind superblocks that both read.
+    /// The root headers behind superblocks that port and Rust read.
     roots: Counts,
     /// Files that disagree or panic.
     shown: Vec<Vec<u8>>,
@@ -58,7 +58,7 @@ impl Plain {
         beside.print("root headers of real files as they are ");
         print_speed(self.files, "files", start);
         println!(
-            "superblocks read by both {}",
+            "superblocks read by port and Rust {}",
             self.read.values().sum::<u64>()
         );
         for (version, count) in &self.read {
@@ -69,7 +69,7 @@ impl Plain {
             };
             println!("  of version {version}{given}: {count}");
         }
-        print_refused("superblocks refused by both", &self.refused);
+        print_refused("superblocks refused by port and Rust", &self.refused);
         let outside: u64 = self.outside.values().sum();
         println!("superblocks outside the comparison {outside}");
         for (why, count) in &self.outside {
@@ -120,7 +120,7 @@ pub fn plain(arguments: &Arguments, count: u64) -> io::Result<bool> {
     Ok(plain.disagreements() == 0 && plain.roots.panicked == 0)
 }
 
-/// Shrinks a file that disagrees or panics, and prints it with what both sides say.
+/// Shrinks a file that disagrees or panics, and prints it with what each side says.
 fn print_smallest(judge: &mut Judge, file: &[u8]) {
     let panics = judge.plain_verdict(file).panicked();
     let smallest = shrink_plain(file, &mut |smaller| {
@@ -146,7 +146,7 @@ fn print_verdict(verdict: &PlainVerdict) {
     }
 }
 
-/// One plain file from standard input: what both sides say of it.
+/// One plain file from standard input: what each side says of it.
 pub fn file(arguments: &Arguments) -> io::Result<bool> {
     let mut file = Vec::new();
     io::stdin().read_to_end(&mut file)?;
@@ -161,7 +161,7 @@ fn summary(verdict: &PlainVerdict) -> String {
     match verdict {
         PlainVerdict::Read(_, root) => root_summary(&root.verdict),
         PlainVerdict::Refused(number) => {
-            format!("both refuse the superblock, the port with {number}")
+            format!("port and Rust refuse the superblock, the port with {number}")
         }
         PlainVerdict::Outside(why) => format!("outside the comparison: {}", why.text()),
         PlainVerdict::Differs(_) => "they disagree".into(),
@@ -170,8 +170,8 @@ fn summary(verdict: &PlainVerdict) -> String {
 
 fn root_summary(root: &Verdict) -> String {
     match root {
-        Verdict::Accepted(_) => "both accept".into(),
-        Verdict::Refused(number) => format!("both refuse the root header, the port with {number}"),
+        Verdict::Accepted(_) => "port and mended Rust accept".into(),
+        Verdict::Refused(number) => format!("port and mended Rust refuse the root header, the port with {number}"),
         Verdict::Outside(why) => {
             format!("the root header is outside the comparison: {}", why.text())
         }

@@ -151,7 +151,7 @@ pub fn print_speed(count: u64, name: &str, start: Instant) {
     println!("{seconds:.1} seconds, {speed:.0} {name} a second");
 }
 
-/// Shrinks an input that disagrees or panics, and prints it with both answers.
+/// Shrinks an input that disagrees or panics, and prints it with all answers.
 fn print_smallest(judge: &mut Judge, input: &Input) {
     let panics = matches!(judge.verdict(input), Verdict::Panicked(_));
     let smallest = shrink(input, &mut |smaller| match judge.verdict(smaller) {
@@ -167,8 +167,8 @@ fn print_smallest(judge: &mut Judge, input: &Input) {
 pub fn print_answers(judged: &Judged) {
     match &judged.verdict {
         Verdict::Differs(text) | Verdict::Panicked(text) => return print!("{text}"),
-        Verdict::Accepted(header) => print!("port and Rust:\n{}", text(&header.report())),
-        Verdict::Refused(number) => println!("port and Rust:\nrefused, by the port with {number}"),
+        Verdict::Accepted(header) => print!("port and mended Rust:\n{}", text(&header.report())),
+        Verdict::Refused(number) => println!("port and mended Rust:\nrefused, by the port with {number}"),
         Verdict::Outside(why) => println!("outside the comparison: {}", why.text()),
     }
     if let Some(outcome) = &judged.otherwise {
