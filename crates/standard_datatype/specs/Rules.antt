@@ -10,7 +10,7 @@ use Rattle.ohdr_datatype.specs.DataTypes.{knownClass, knownType, dataTypeHeader
 use Rattle.ohdr_datatype.specs.DataTypes as ours
 use Rattle.standard.specs.Untested.{Untested}
 use Rattle.standard.specs.Versions.{marked}
-use Rattle.standard.specs.Datatypes.{DatatypeHeader, datatypeHeader, fixedPoint, floatingPoint, terminated, member1, member3, version-1, version-3, member, Datatype, datatype, Properties, fixed-point, floating-point, no-properties, members, parent-type, no-members, more-members, membersOf, compound, properties, datatypeOf, datatypeMessage}
+use Rattle.standard.specs.Datatypes.{DatatypeHeader, datatypeHeader, fixedPoint, floatingPoint, terminated, member1, member3, version-3, member, datatype, Properties, fixed-point, floating-point, members, parent-type, no-members, more-members, membersOf, compound, properties, datatypeOf, datatypeMessage}
 use Rattle.standard.specs.DatatypeRules.{ValidClassBits, ValidNumber, ValidParentType, ValidMembers, ValidMembers1, Each}
 use Rattle.standard_datatype.specs.SampleTypes.{string4, theString4, aMember1, theCompound1, compound1}
 
