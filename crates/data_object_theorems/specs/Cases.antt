@@ -11,7 +11,7 @@ use Rattle.ohdr_dataspace.specs.DataSpaces.{dataSpace, dataSpaceHeader, kind, d
 use Rattle.grammar.specs.Grammar.{ochk, blockEnd, headerEnd}
 use Rattle.grammar.specs.Walk.{lent, hold, entryBy, runBy, blockBy, entryAt, runAt, walk}
 use Rattle.ohdr_entry.specs.Entries.{entry, prefix, creationOrder, closed, messageHeld, continuationHeld, body, plainBody}
-use Rattle.ohdr_walk.specs.Sources.{sumMatches}
+use Rattle.lookup3.specs.Lookup3.{plus, minus, rotate, mixLine, mix, finalLine, finalMix, addBlock, blocks, sumOf, sumMatches}
 use Rattle.data_object_header.specs.Headers.{ohdr, headerFields, header, decode}
 use Rattle.data_object.specs.Decoded.{counts}
 
@@ -27,53 +27,55 @@ pub record Case : Type 0 where
 abbrev pub given : Case → Out ℕ
 given c = counts (decode (c .file) (c .offsets) (c .lengths) (c .end) 0 (lent 2))
 
--- `OHDR`, version 2 and flags 0; four bytes of checksum
+-- `OHDR`, version 2 and flags 0
 abbrev opening : List ℕ
 opening = 0x4F ∷ 0x48 ∷ 0x44 ∷ 0x52 ∷ 2 ∷ 0 ∷ []
 
-abbrev checksum : List ℕ
-checksum = 0 ∷ 0 ∷ 0 ∷ 0 ∷ []
-
--- a dataspace with one size, of three bytes
-abbrev space3 : ℕ → List ℕ
-space3 low = opening ++ (11 ∷ 1 ∷ 7 ∷ 0 ∷ 0 ∷ 2 ∷ 1 ∷ 0 ∷ 1 ∷ low ∷ 0x42 ∷ 0x0F ∷ []) ++ checksum
+-- a dataspace with one size, of three bytes; here and below the last parameter is the header's checksum
+abbrev space3 : ℕ → List ℕ → List ℕ
+space3 low sum = opening ++ (11 ∷ 1 ∷ 7 ∷ 0 ∷ 0 ∷ 2 ∷ 1 ∷ 0 ∷ 1 ∷ low ∷ 0x42 ∷ 0x0F ∷ []) ++ sum
 
 -- a dataspace with one size and its maximum, of eight bytes
-abbrev space8 : ℕ → List ℕ
-space8 low =
+abbrev space8 : ℕ → List ℕ → List ℕ
+space8 low sum =
     opening
     ++ (24 ∷ 1 ∷ 20 ∷ 0 ∷ 0 ∷ 2 ∷ 1 ∷ 1 ∷ 1 ∷ 1 ∷ 0 ∷ 0 ∷ 0 ∷ 0 ∷ 0 ∷ 0 ∷ 0 ∷ low ∷ 0xFF ∷ 0xFF ∷ 0xFF ∷ 0xFF ∷ 0xFF ∷ 0xFF ∷ 0xFF ∷ [])
-    ++ checksum
+    ++ sum
 
 -- a text type of a size
-abbrev typed : ℕ → List ℕ
-typed size = opening ++ (12 ∷ 3 ∷ 8 ∷ 0 ∷ 0 ∷ 0x13 ∷ 0 ∷ 0 ∷ 0 ∷ size ∷ 0 ∷ 0 ∷ 0 ∷ []) ++ checksum
+abbrev typed : ℕ → List ℕ → List ℕ
+typed size sum = opening ++ (12 ∷ 3 ∷ 8 ∷ 0 ∷ 0 ∷ 0x13 ∷ 0 ∷ 0 ∷ 0 ∷ size ∷ 0 ∷ 0 ∷ 0 ∷ []) ++ sum
 
--- a continuation to the block that follows the header, of a length, and the block's eight bytes
-abbrev continued : ℕ → List ℕ
-continued length = opening ++ (8 ∷ 16 ∷ 4 ∷ 0 ∷ 0 ∷ 19 ∷ 0 ∷ length ∷ 0 ∷ []) ++ checksum ++ (0x4F ∷ 0x43 ∷ 0x48 ∷ 0x4B ∷ []) ++ checksum
+-- a continuation to the block that follows the header, of a length, and the block's `OCHK`
+abbrev continued : ℕ → List ℕ → List ℕ
+continued length sum = opening ++ (8 ∷ 16 ∷ 4 ∷ 0 ∷ 0 ∷ 19 ∷ 0 ∷ length ∷ 0 ∷ []) ++ sum ++ (0x4F ∷ 0x43 ∷ 0x48 ∷ 0x4B ∷ [])
+
+-- the checksum of such a block of 8 bytes
+abbrev blockSum : List ℕ
+blockSum = 0x9D ∷ 0xD6 ∷ 0xB8 ∷ 0x85 ∷ []
 
 abbrev pub marked : List Case
 marked =
     -- no messages
-    record { file = opening ++ (0 ∷ []) ++ checksum; offsets = 8; lengths = 8; end = 11; outcome = found 0 11 }
+    record { file = opening ++ (0 ∷ 0xEF ∷ 0x17 ∷ 0x04 ∷ 0xAC ∷ []); offsets = 8; lengths = 8; end = 11; outcome = found 0 11 }
     -- a gap of 3 bytes
-    ∷ record { file = opening ++ (3 ∷ 0 ∷ 0 ∷ 0 ∷ []) ++ checksum; offsets = 8; lengths = 8; end = 14; outcome = found 0 14 }
+    ∷ record { file = opening ++ (3 ∷ 0x61 ∷ 0x62 ∷ 0x63 ∷ 0x89 ∷ 0xA8 ∷ 0x2F ∷ 0xFB ∷ []); offsets = 8; lengths = 8; end = 14; outcome = found 0 14 }
     -- a size of 1,000,000 and one above
-    ∷ record { file = space3 0x40; offsets = 8; lengths = 3; end = 22; outcome = found 1 22 }
-    ∷ record { file = space3 0x41; offsets = 8; lengths = 3; end = 22; outcome = refused 9 }
+    ∷ record { file = space3 0x40 (0x25 ∷ 0x90 ∷ 0xF8 ∷ 0x34 ∷ []); offsets = 8; lengths = 3; end = 22; outcome = found 1 22 }
+    ∷ record { file = space3 0x41 (0x58 ∷ 0x40 ∷ 0x4F ∷ 0xCF ∷ []); offsets = 8; lengths = 3; end = 22; outcome = refused 9 }
     -- a maximum of all ones, and one below
-    ∷ record { file = space8 0xFF; offsets = 8; lengths = 8; end = 35; outcome = found 1 35 }
-    ∷ record { file = space8 0xFE; offsets = 8; lengths = 8; end = 35; outcome = refused 9 }
+    ∷ record { file = space8 0xFF (0x15 ∷ 0xE4 ∷ 0xCB ∷ 0x1F ∷ []); offsets = 8; lengths = 8; end = 35; outcome = found 1 35 }
+    ∷ record { file = space8 0xFE (0x61 ∷ 0x10 ∷ 0xD9 ∷ 0x98 ∷ []); offsets = 8; lengths = 8; end = 35; outcome = refused 9 }
     -- a type size of 63 and of 64
-    ∷ record { file = typed 63; offsets = 8; lengths = 8; end = 23; outcome = found 1 23 }
-    ∷ record { file = typed 64; offsets = 8; lengths = 8; end = 23; outcome = refused 11 }
+    ∷ record { file = typed 63 (0x7B ∷ 0xAA ∷ 0xB1 ∷ 0xA5 ∷ []); offsets = 8; lengths = 8; end = 23; outcome = found 1 23 }
+    ∷ record { file = typed 64 (0x77 ∷ 0xB3 ∷ 0x70 ∷ 0x22 ∷ []); offsets = 8; lengths = 8; end = 23; outcome = refused 11 }
     -- a continuation of length 8, which ends at end-of-file, and of 7; one that ends past it
-    ∷ record { file = continued 8; offsets = 2; lengths = 2; end = 27; outcome = found 1 19 }
-    ∷ record { file = continued 7; offsets = 2; lengths = 2; end = 27; outcome = refused 19 }
-    ∷ record { file = continued 9; offsets = 2; lengths = 2; end = 27; outcome = refused 19 }
-    -- a body that overruns its size and the chunk
-    ∷ record { file = opening ++ (4 ∷ 10 ∷ 0 ∷ 0 ∷ 0 ∷ 0 ∷ 0 ∷ []) ++ checksum; offsets = 8; lengths = 8; end = 17; outcome = found 1 17 }
+    ∷ record { file = continued 8 (0x14 ∷ 0x9C ∷ 0x70 ∷ 0x6E ∷ []) ++ blockSum; offsets = 2; lengths = 2; end = 27; outcome = found 1 19 }
+    ∷ record { file = continued 7 (0x72 ∷ 0x0A ∷ 0xF3 ∷ 0x4B ∷ []) ++ blockSum; offsets = 2; lengths = 2; end = 27; outcome = refused 19 }
+    ∷ record { file = continued 9 (0x51 ∷ 0x29 ∷ 0xB9 ∷ 0xCF ∷ []) ++ blockSum; offsets = 2; lengths = 2; end = 27; outcome = refused 19 }
+    -- a checksum that does not match: of a header by its last bit, of a block by its first
+    ∷ record { file = opening ++ (0 ∷ 0xEF ∷ 0x17 ∷ 0x04 ∷ 0x2C ∷ []); offsets = 8; lengths = 8; end = 11; outcome = refused 28 }
+    ∷ record { file = continued 8 (0x14 ∷ 0x9C ∷ 0x70 ∷ 0x6E ∷ []) ++ (0x9C ∷ 0xD6 ∷ 0xB8 ∷ 0x85 ∷ []); offsets = 2; lengths = 2; end = 27; outcome = refused 28 }
     ∷ []
 
 -- what a function gives at each case
@@ -83,5 +85,5 @@ each f (c ∷ cs) = f c ∷ each f cs
 
 -- the definition gives each marked case its outcome
 pub marked-cases : each given marked ≡ each (λ c. c .outcome) marked
-unfolding le read bind times cond groupInfo continuation dataType typeLayer dataTypeHeader knownType knownClass properties plain dataSpace dataSpaceHeader kind dimensions dimensionsFrom dimension maximumSizes dataSpaceSizes ochk blockEnd headerEnd sumMatches hold entryBy runBy blockBy entryAt runAt walk entry prefix creationOrder closed messageHeld continuationHeld body plainBody ohdr headerFields header decode
+unfolding le read bind times cond groupInfo continuation dataType typeLayer dataTypeHeader knownType knownClass properties plain dataSpace dataSpaceHeader kind dimensions dimensionsFrom dimension maximumSizes dataSpaceSizes ochk blockEnd headerEnd plus minus rotate mixLine mix finalLine finalMix addBlock blocks sumOf sumMatches hold entryBy runBy blockBy entryAt runAt walk entry prefix creationOrder closed messageHeld continuationHeld body plainBody ohdr headerFields header decode
 marked-cases = refl

@@ -96,7 +96,7 @@ fn bytes_3(file: &[u8], at: usize) -> u64
     bytes_2(file, at) + 65536 * bytes_1(file, at + 2)
 }
 
-fn bytes_4(file: &[u8], at: usize) -> u64
+pub fn bytes_4(file: &[u8], at: usize) -> u64
     requires { ⌜ at + 4 ≤ length (now file) ⌝ }
     ensures { λ r. ⌜ (r ≡ le (now (file .entry)) at 4) × (r < 4294967296) ⌝ }
 {
@@ -111,7 +111,7 @@ fn bytes_8(file: &[u8], at: usize) -> u64
 }
 
 // The number in as many bytes as `size` says.
-fn bytes_of(file: &[u8], at: usize, size: usize) -> u64
+pub fn bytes_of(file: &[u8], at: usize, size: usize) -> u64
     requires { ⌜ (size ≤ 8) × (at + size ≤ length (now file)) ⌝ }
     ensures { λ r. ⌜ r ≡ le (now (file .entry)) at size ⌝ }
 {

@@ -10,7 +10,8 @@ use Rattle.grammar.specs.Grammar.{Source, blockEnd}
 use Rattle.grammar.specs.Walk.{choose, Went, reached, stopped, andThen, begun}
 use Rattle.grammar.specs.Walk as walks
 use Rattle.grammar.specs.Filled.{Walked, entryOn, runOn, walkOn}
-use Rattle.ohdr_walk.specs.Sources.{sumMatches, source}
+use Rattle.lookup3.specs.Lookup3.{sumMatches}
+use Rattle.ohdr_walk.specs.Sources.{source}
 use Rattle.ohdr_walk.specs.declared.Header.{Header}
 use Rattle.ohdr_walk.specs.declared.Limits.{Limits}
 use Rattle.ohdr_walk.specs.declared.Progress.{Progress}

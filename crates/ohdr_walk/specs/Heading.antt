@@ -13,7 +13,7 @@ use Rattle.grammar.specs.Grammar.{headerEnd}
 use Rattle.grammar.specs.Walk.{reached, stopped}
 use Rattle.grammar.specs.Filled.{walk-on-stops, walk-on-unclosed, walk-on-closed}
 use Rattle.ohdr_walk.specs.Code.{sourceOf, limitsOf, walkedOf, walkOut, runOf, walkOf}
-use Rattle.ohdr_walk.specs.Sources.{sumMatches}
+use Rattle.lookup3.specs.Lookup3.{sumMatches}
 use Rattle.ohdr_walk.specs.declared.Header.{Header}
 use Rattle.ohdr_walk.specs.declared.Limits.{Limits}
 use Rattle.ohdr_walk.specs.declared.Progress.{Progress}

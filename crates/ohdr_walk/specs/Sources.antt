@@ -1,14 +1,10 @@
 -- What is walked in a header: its entries by themselves, and the test of its checksums. Assumes nothing: these are definitions.
 use Prim.Native.Nat.{ℕ}
-use mathlib.Core.Bool.{Bool, true}
 use mathlib.Core.List.{List}
 use Rattle.parser.specs.declared.State.{State}
 use Rattle.grammar.specs.Grammar.{Source}
+use Rattle.lookup3.specs.Lookup3.{sumMatches}
 use Rattle.ohdr_entry.specs.Entries.{prefixSize, entry}
-
--- Whether the checksum stored at `end` is that of the bytes from `from` up to it. It is not tested yet, so that each one matches.
-unfoldable pub sumMatches : List ℕ → ℕ → ℕ → Bool
-sumMatches file from end = true
 
 -- what is walked in a header with these flags
 abbrev pub source : List ℕ → State → ℕ → Source

@@ -4,6 +4,7 @@ use helpers::Place;
 use helpers::Taken;
 use helpers::signature;
 use helpers::take;
+use lookup3::checksum_matches;
 use ohdr_entry::EntryRead;
 use ohdr_entry::entry_alone;
 use parser::State;
@@ -20,7 +21,7 @@ ghost use Rattle.parser.specs.States.{Widths};
 ghost use Rattle.grammar.specs.Grammar.{blockEnd, headerEnd};
 ghost use Rattle.ohdr_entry.specs.Entries.{prefixSize};
 ghost use Rattle.row.specs.Rows.{rowWords};
-ghost use Rattle.ohdr_walk.specs.Sources.{sumMatches};
+ghost use Rattle.lookup3.specs.Lookup3.{sumMatches};
 ghost use Rattle.ohdr_walk.specs.Code.{rowTaken, blockClosed, walkedOf, walkOut, entryOf, runOf, walkOf};
 
 // What does not change while a header is walked: the state of the file, and the header's flags.
@@ -79,15 +80,6 @@ fn gap(at: usize, end: usize) -> usize
     ensures { λ r. ⌜ r ≡ end - at ⌝ }
 {
     if at < end { end - at } else { 0 }
-}
-
-// Whether the checksum stored at `end` is that of the bytes from `from` up to it. It is not tested
-// yet: every one passes.
-fn checksum_matches(file: &[u8], from: usize, end: usize) -> bool
-    requires { ⌜ (from ≤ end) × (end + 4 ≤ length (now file)) ⌝ }
-    ensures { λ r. ⌜ r ≡ sumMatches (now (file .entry)) from end ⌝ }
-{
-    true
 }
 
 // What closes a block.

@@ -4,8 +4,14 @@ use Prim.Native.Nat.{ℕ, _+_, _-_, _≤_, _<_}
 use mathlib.Core.Path.{_≡_}
 use mathlib.Core.List.{List, [], _∷_, _++_}
 use lib.ListN.{length}
+use Rattle.format.specs.Bytes.{le}
 use Rattle.format.specs.Format.{Stands}
+use Rattle.lookup3.specs.Lookup3.{checksum}
 use Rattle.standard.specs.Headers.{ObjectHeaderPrefix, objectHeaderPrefix, HeaderMessage, headerMessage, ContinuationMessage, continuationMessage, continuationSignature}
+
+-- Checksum, by I.A lookup3 of the bytes from a position up to where it stands, in 4 bytes of the file
+abbrev pub ChecksumStands : List ℕ → ℕ → ℕ → Type 0
+ChecksumStands file from at = (at + 4 ≤ length file) × (le file at 4 ≡ checksum file from (at - from))
 
 -- over a file, and the widths of offsets and lengths
 module _ (file : List ℕ) (size-of-offsets size-of-lengths : ℕ) where
@@ -20,15 +26,15 @@ module _ (file : List ℕ) (size-of-offsets size-of-lengths : ℕ) where
           → Stands file (continuationMessage size-of-offsets size-of-lengths) (x .header-message-data .position) q c → ContinuationBlock header-flags (c .offset) (c .length) ys
           → Messages header-flags m e xs → Messages header-flags p e (x ∷ (ys ++ xs))
 
-    -- Layout: Version 2 Object Header Continuation Block, of so many bytes: signature, messages, gap, and a checksum of 4 bytes, whose value is not said here
+    -- Layout: Version 2 Object Header Continuation Block, of so many bytes: signature, messages, gap, and the checksum of these
     pub data ContinuationBlock (header-flags : ℕ) : ℕ → ℕ → List HeaderMessage → Type 0 where
       block : {offset size : ℕ} {xs : List HeaderMessage} (start signature : ℕ) → Stands file continuationSignature offset start signature
-          → Messages header-flags start (offset + size - 4) xs → offset + size ≤ length file → ContinuationBlock header-flags offset size xs
+          → Messages header-flags start (offset + size - 4) xs → ChecksumStands file offset (offset + size - 4) → ContinuationBlock header-flags offset size xs
 
-  -- Layout: Version 2 Object Header: the prefix, messages, gap, and a checksum of 4 bytes, whose value is not said here; all its messages, in this order
+  -- Layout: Version 2 Object Header: the prefix, messages, gap, and the checksum of these; all its messages, in this order
   pub record ObjectHeader (at : ℕ) (messages : List HeaderMessage) : Type 0 where
     pub prefix : ObjectHeaderPrefix
     pub start : ℕ
     pub prefix-stands : Stands file objectHeaderPrefix at start prefix
     pub chunk : Messages (prefix .flags) start (start + prefix .size-of-chunk-0) messages
-    pub checksum : start + prefix .size-of-chunk-0 + 4 ≤ length file
+    pub checksum-stands : ChecksumStands file at (start + prefix .size-of-chunk-0)

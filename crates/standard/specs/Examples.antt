@@ -6,6 +6,7 @@ use native.Mathlib.Omega.{arith}
 use Rattle.format.specs.Bytes.{le}
 use Rattle.format.specs.Format.{found, read, bind}
 use Rattle.format.specs.Laws.{sound}
+use Rattle.lookup3.specs.Lookup3.{plus, minus, rotate, mixLine, mix, finalLine, finalMix, addBlock, blocks, sumOf}
 use Rattle.standard.specs.Fields.{absent, present, optional, raw, many}
 use Rattle.standard.specs.Versions.{marked}
 use Rattle.standard.specs.Superblocks.{superblock23}
@@ -193,15 +194,15 @@ pub a-second-filter-pipeline : read (2 ∷ 2 ∷ 255 ∷ 0 ∷ 0 ∷ 0 ∷ 1 ∷
 unfolding read bind le raw optional many filterFields2 filterDescription2 pipelineFields2 filterPipeline2
 a-second-filter-pipeline = refl
 
--- a header whose first chunk has a continuation message, and whose block has a NIL message
+-- a header whose first chunk has a continuation message, and whose block has a NIL message, each with its checksum
 abbrev continuedFile : List ℕ
 continuedFile =
     0x4F ∷ 0x48 ∷ 0x44 ∷ 0x52 ∷ 2 ∷ 0 ∷ 8
     ∷ 16 ∷ 4 ∷ 0 ∷ 0 ∷ 19 ∷ 0 ∷ 12 ∷ 0
-    ∷ 0 ∷ 0 ∷ 0 ∷ 0
+    ∷ 0x84 ∷ 0x45 ∷ 0x99 ∷ 0xC6
     ∷ 0x4F ∷ 0x43 ∷ 0x48 ∷ 0x4B
     ∷ 0 ∷ 0 ∷ 0 ∷ 0
-    ∷ 0 ∷ 0 ∷ 0 ∷ 0 ∷ []
+    ∷ 0xE7 ∷ 0x60 ∷ 0xC8 ∷ 0xC7 ∷ []
 
 abbrev plainMessage : ℕ → ℕ → ℕ → HeaderMessage
 plainMessage type position size =
@@ -211,7 +212,7 @@ plainMessage type position size =
     }
 
 pub a-whole-header : ObjectHeader continuedFile 2 2 0 (plainMessage 16 11 4 ∷ plainMessage 0 27 0 ∷ [])
-unfolding read bind le optional raw objectHeaderPrefix messagePrefix headerMessage continuationMessage continuationSignature
+unfolding read bind le optional raw objectHeaderPrefix messagePrefix headerMessage continuationMessage continuationSignature plus minus rotate mixLine mix finalLine finalMix addBlock blocks sumOf
 a-whole-header =
     record {
       prefix = record {
@@ -231,7 +232,7 @@ a-whole-header =
       chunk =
           continued 15 (record { offset = 19; length = 12 }) (sound continuedFile (headerMessage 0) 7 15 (plainMessage 16 11 4) refl) refl
           (sound continuedFile (continuationMessage 2 2) 11 15 _ refl)
-          (block {offset = 19} {size = 12} 23 0x4B48434F (sound continuedFile continuationSignature 19 23 _ refl) (next (sound continuedFile (headerMessage 0) 23 27 (plainMessage 0 27 0) refl) (λ e. omega arith) (gap {p = 27} {e = 27} (omega arith) (omega arith))) (omega arith))
+          (block {offset = 19} {size = 12} 23 0x4B48434F (sound continuedFile continuationSignature 19 23 _ refl) (next (sound continuedFile (headerMessage 0) 23 27 (plainMessage 0 27 0) refl) (λ e. omega arith) (gap {p = 27} {e = 27} (omega arith) (omega arith))) (omega arith, refl))
           (gap {p = 15} {e = 15} (omega arith) (omega arith));
-      checksum = omega arith;
+      checksum-stands = (omega arith, refl);
     }

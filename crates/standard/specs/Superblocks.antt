@@ -1,8 +1,11 @@
 -- II.A, superblocks of versions 2 and 3. Assumes nothing: these are definitions.
-use Prim.Native.Nat.{ℕ, _+_, _*_}
+use Prim.Native.Nat.{ℕ, _+_, _-_, _*_}
+use mathlib.Core.Path.{_≡_}
 use mathlib.Core.Bool.{_||_}
+use mathlib.Core.List.{List}
 use lib.Dec.{eqb}
 use Rattle.format.specs.Format.{Format, done, number}
+use Rattle.lookup3.specs.Lookup3.{checksum}
 use Rattle.standard.specs.Fields.{only}
 use Rattle.standard.specs.Headers.{characters}
 
@@ -50,3 +53,7 @@ superblock23 =
       root-group-object-header-address = root-group-object-header-address;
       superblock-checksum = superblock-checksum;
     })))))))))))))
+
+-- Superblock Checksum, of a superblock from the file's first byte up to `end`: by I.A lookup3 of the fields before it
+abbrev pub ValidChecksum : List ℕ → ℕ → Superblock → Type 0
+ValidChecksum file end x = x .superblock-checksum ≡ checksum file 0 (end - 4)

@@ -18,8 +18,11 @@ use Rattle.grammar.specs.Message.{Message, message, continuation}
 use Rattle.grammar.specs.Grammar.{ochk, blockEnd, Item, item, Run, ends, goes, is-message, is-continuation, is-block}
 use Rattle.ohdr_entry.specs.Entries.{prefixSize}
 use Rattle.ohdr_entry.specs.Entered.{continued}
-use Rattle.ohdr_walk.specs.Sources.{sumMatches, source}
+use Rattle.lookup3.specs.Lookup3.{sumMatches}
+use Rattle.lookup3.specs.Laws.{matches-is}
+use Rattle.ohdr_walk.specs.Sources.{source}
 use Rattle.standard.specs.Headers.{HeaderMessage, headerMessage, continuationSignature}
+use Rattle.standard.specs.Chunks.{ChecksumStands}
 use Rattle.standard_header.specs.Prefixes.{block-signature-tied}
 use Rattle.standard_header.specs.Same.{SameHeld, SameEntries}
 use Rattle.standard_header.specs.Entries.{MessageEntry, message-entry, ContinuationEntry, continuation-entry}
@@ -46,12 +49,13 @@ module _ (file : List ℕ) (s : State) (header-flags : ℕ) where
     -- one applies after a message
     later : {p e : ℕ} → p + 4 ≤ e → (m : ℕ) (x : HeaderMessage) → Stands file (headerMessage header-flags) p m x → ChunkDiffers m e → ChunkDiffers p e
 
-  -- the same of the chunk in a block
+  -- the same of the chunk in a block, between the specification's signature and its checksum
   pub record BlockDiffers (offset size : ℕ) : Type 0 where
     pub start : ℕ
     pub signature : ℕ
     pub signature-stands : Stands file continuationSignature offset start signature
     pub chunk : ChunkDiffers start (offset + size - 4)
+    pub checksum-stands : ChecksumStands file offset (offset + size - 4)
 
   -- the entries that are read in the chunk from p to e itself are its messages
   pub record ChunkIs (p e : ℕ) (own : List Item) : Type 0 where
@@ -59,13 +63,13 @@ module _ (file : List ℕ) (s : State) (header-flags : ℕ) where
     pub stand : OwnMessages file header-flags p e messages
     pub same : SameEntries file s own messages
 
-  -- the same of the chunk in a block, which is the specification's: signature, messages, gap, and a checksum of 4 bytes
+  -- the same of the chunk in a block, which is the specification's: signature, messages, gap, and checksum
   pub record BlockIs (offset size : ℕ) (own : List Item) : Type 0 where
     pub start : ℕ
     pub signature : ℕ
     pub signature-stands : Stands file continuationSignature offset start signature
     pub chunk : ChunkIs start (offset + size - 4) own
-    pub checksum : offset + size ≤ length file
+    pub checksum-stands : ChecksumStands file offset (offset + size - 4)
 
   -- an entry as a header message of the specification
   record EntryStands (p q : ℕ) (i : Item) : Type 0 where
@@ -143,19 +147,25 @@ module _ (file : List ℕ) (s : State) (header-flags : ℕ) where
   unfolding ochk
   signature-end p q h = sym (stands-check file (eqb (le file p 4) 0x4B48434F) 20 nothing (p + 4) q tt (h .1) .1 .0)
 
-  -- what closes a block ends in the file
-  block-inside : (offset w q m : ℕ) → Stands file (blockEnd (sumMatches file) offset w q) q m tt → w ≤ length file
+  -- the checksum that closes a block is the specification's
+  block-checksum : (offset w q m : ℕ) → 4 ≤ w → Stands file (blockEnd (sumMatches file) offset w q) q m tt → ChecksumStands file offset (w - 4)
   unfolding blockEnd
-  block-inside offset w q m h = omega (arith, h .0)
+  block-checksum offset w q m l h =
+      let c = stands-check file (sumMatches file offset (w - 4)) 28 nothing (q + (w - q)) m tt (h .1) in
+      (omega (arith, h .0), matches-is file offset (w - 4) (c .0))
 
   -- a block
   block-of : (offset size start q : ℕ) (own : List Item) → Stands file ochk offset start tt → (start ≤ offset + size - 4 → ReadUpTo start (offset + size - 4) q own)
-      → offset + size ≤ length file → 8 ≤ size → BlockDiffers offset size ⊎ BlockIs offset size own
+      → ChecksumStands file offset (offset + size - 4) → 8 ≤ size → BlockDiffers offset size ⊎ BlockIs offset size own
   block-of offset size start q own h j t l = let e = signature-end offset start h in go (j (omega arith))
     where
       go : ReadUpTo start (offset + size - 4) q own → BlockDiffers offset size ⊎ BlockIs offset size own
-      go (inl d) = let y = block-signature-tied .ties file offset start tt h in inl (record { start = start; signature = y .value; signature-stands = y .stands; chunk = d })
-      go (inr r) = let y = block-signature-tied .ties file offset start tt h in inr (record { start = start; signature = y .value; signature-stands = y .stands; chunk = r .1; checksum = t })
+      go (inl d) =
+          let y = block-signature-tied .ties file offset start tt h in
+          inl (record { start = start; signature = y .value; signature-stands = y .stands; chunk = d; checksum-stands = t })
+      go (inr r) =
+          let y = block-signature-tied .ties file offset start tt h in
+          inr (record { start = start; signature = y .value; signature-stands = y .stands; chunk = r .1; checksum-stands = t })
 
 -- and the longest name of a member that the specification's formats are asked for
 module _ (file : List ℕ) (s : State) (longest header-flags : ℕ) where
@@ -207,5 +217,5 @@ module _ (file : List ℕ) (s : State) (longest header-flags : ℕ) where
           let k = i .chunk (continued file s header-flags p q o l h .least) in
           record { first = item p q (continuation o l); head = continuation-head file s header-flags p q o l x; before = λ own more j. a-continuation x k (i .entries) j })
       | is-block {offset = o} {size = z} {start = a} {q = q} {xs = xs} n h (r → j) t ↦ (
-          record { own = j .own; chunk = block-of file s header-flags o z a q (j .own) h (j .chunk) (block-inside file s header-flags o (o + z) q n t); entries = j .entries })
+          record { own = j .own; chunk = λ l. block-of file s header-flags o z a q (j .own) h (j .chunk) (block-checksum file s header-flags o (o + z) q n (omega arith) t) l; entries = j .entries })
     ]

@@ -13,11 +13,12 @@ use Rattle.grammar.specs.Grammar.{Item, headerEnd}
 use Rattle.grammar.specs.Table.{messagesOf, messages}
 use Rattle.grammar.specs.TableLaws.{messagesOf-append}
 use Rattle.grammar.specs.Each.{All, all-append}
-use Rattle.ohdr_walk.specs.Sources.{sumMatches}
+use Rattle.lookup3.specs.Lookup3.{sumMatches}
+use Rattle.lookup3.specs.Laws.{matches-is}
 use Rattle.data_object_header.specs.declared.HeaderFields.{HeaderFields}
 use Rattle.data_object_header.specs.Headers.{HeaderReading}
 use Rattle.standard.specs.Headers.{ObjectHeaderPrefix, objectHeaderPrefix, HeaderMessage}
-use Rattle.standard.specs.Chunks.{ObjectHeader}
+use Rattle.standard.specs.Chunks.{ChecksumStands, ObjectHeader}
 use Rattle.standard_header.specs.Prefixes.{SameHeader, header-tied}
 use Rattle.standard_header.specs.Same.{OneByOne, as-many, SameMessage, noContinuations, SameHeld, SameEntries, same-messages}
 use Rattle.standard_header.specs.Bodies.{TextAt, text-part}
@@ -25,10 +26,9 @@ use Rattle.standard_header.specs.Chunks.{ChunkDiffers, ChunkIs, ReadUpTo
 use Rattle.standard_header.specs.Whole.{InBlocks, WholeChunk, whole-chunk}
 
 module _ (file : List ℕ) (s : State) where
-  -- the first chunk by itself, with the checksum of 4 bytes behind its end e, where the header ends
+  -- the first chunk by itself; the header ends with the checksum of 4 bytes behind its end e
   pub record FirstChunkIs (header-flags start e after : ℕ) (own : List Item) : Type 0 where
     pub chunk : ChunkIs file s header-flags start e own
-    pub checksum : e + 4 ≤ length file
     pub end : after ≡ e + 4
 
   -- The header at a position as a whole: what its messages are, in its first chunk and in its blocks; how many there are; and where it ends.
@@ -50,6 +50,8 @@ module _ (file : List ℕ) (s : State) (longest : ℕ) where
     pub start : ℕ
     pub prefix-stands : Stands file objectHeaderPrefix at start prefix
     pub prefix-same : SameHeader fields prefix
+    -- its checksum, whichever difference applies
+    pub checksum-stands : ChecksumStands file at (start + prefix .size-of-chunk-0)
     -- its first chunk by itself, with the entries that are read there, unless a difference applies in it
     pub own : List Item
     pub first-chunk : ChunkDiffers file s (prefix .flags) start (start + prefix .size-of-chunk-0) ⊎ FirstChunkIs file s (prefix .flags) start (start + prefix .size-of-chunk-0) after own
@@ -76,9 +78,9 @@ module _ (file : List ℕ) (s : State) (longest : ℕ) where
 
   -- as a whole, where the first chunk is the specification's
   whole-of : (at start after : ℕ) (own xs : List Item) (x : ObjectHeaderPrefix) → Stands file objectHeaderPrefix at start x
-      → FirstChunkIs file s (x .flags) start (start + x .size-of-chunk-0) after own → EntriesAre file s longest (x .flags) own xs
+      → ChecksumStands file at (start + x .size-of-chunk-0) → FirstChunkIs file s (x .flags) start (start + x .size-of-chunk-0) after own → EntriesAre file s longest (x .flags) own xs
       → InBlocks file s (x .flags) xs ⊎ WholeIs file s at after (length xs) (messages xs) xs
-  whole-of at start after own xs x h c r = go (whole-chunk file s (x .flags) r start (start + x .size-of-chunk-0) (c .chunk .messages) (c .chunk .stand) (c .chunk .same))
+  whole-of at start after own xs x h k c r = go (whole-chunk file s (x .flags) r start (start + x .size-of-chunk-0) (c .chunk .messages) (c .chunk .stand) (c .chunk .same))
     where
       go : InBlocks file s (x .flags) xs ⊎ WholeChunk file s (x .flags) start (start + x .size-of-chunk-0) xs → InBlocks file s (x .flags) xs ⊎ WholeIs file s at after (length xs) (messages xs) xs
       go (inl d) = inl d
@@ -86,7 +88,7 @@ module _ (file : List ℕ) (s : State) (longest : ℕ) where
           let r = same-messages file s xs (w .messages) (w .same) in
           inr (record {
             messages = w .messages;
-            header = record { prefix = x; start = start; prefix-stands = h; chunk = w .chunk; checksum = c .checksum };
+            header = record { prefix = x; start = start; prefix-stands = h; chunk = w .chunk; checksum-stands = k };
             entries = w .same;
             entry-count = as-many (λ (i : Item) (y : HeaderMessage). SameHeld file s (i .held) y) xs (w .messages) (w .same);
             with-rows = r;
@@ -96,28 +98,28 @@ module _ (file : List ℕ) (s : State) (longest : ℕ) where
 
   -- what is read, in the specification's words
   header-of : (at start after last : ℕ) (own xs : List Item) (f : HeaderFields) (x : ObjectHeaderPrefix) → Stands file objectHeaderPrefix at start x → SameHeader f x
-      → after ≡ max last (start + f .size) + 4 → after ≤ length file → ReadUpTo file s (f .flags) start (start + f .size) last own → EntriesAre file s longest (f .flags) own xs
+      → after ≡ max last (start + f .size) + 4 → ChecksumStands file at (start + f .size) → ReadUpTo file s (f .flags) start (start + f .size) last own → EntriesAre file s longest (f .flags) own xs
       → HeaderIs at after (length xs) (messages xs) f xs
-  header-of at start after last own xs f x h r e i c m = go (rw (r .size-of-chunk-0) at e) (rw (r .flags, r .size-of-chunk-0) at c) (rw (r .flags) at m)
+  header-of at start after last own xs f x h r e i c m = go (rw (r .size-of-chunk-0) at e) (rw (r .size-of-chunk-0) at i) (rw (r .flags, r .size-of-chunk-0) at c) (rw (r .flags) at m)
     where
-      go : after ≡ max last (start + x .size-of-chunk-0) + 4 → ReadUpTo file s (x .flags) start (start + x .size-of-chunk-0) last own → EntriesAre file s longest (x .flags) own xs
-          → HeaderIs at after (length xs) (messages xs) f xs
-      go e (inl d) m = record { prefix = x; start = start; prefix-stands = h; prefix-same = r; own = own; first-chunk = inl d; entries = m; whole = inl (inl d) }
-      go e (inr y) m =
-          let c : FirstChunkIs file s (x .flags) start (start + x .size-of-chunk-0) after own = record { chunk = y .1; checksum = omega (arith, y .0); end = omega (arith, y .0) } in
-          record { prefix = x; start = start; prefix-stands = h; prefix-same = r; own = own; first-chunk = inr c; entries = m; whole = blocks (whole-of at start after own xs x h c m) }
+      go : after ≡ max last (start + x .size-of-chunk-0) + 4 → ChecksumStands file at (start + x .size-of-chunk-0) → ReadUpTo file s (x .flags) start (start + x .size-of-chunk-0) last own
+          → EntriesAre file s longest (x .flags) own xs → HeaderIs at after (length xs) (messages xs) f xs
+      go e k (inl d) m = record { prefix = x; start = start; prefix-stands = h; prefix-same = r; checksum-stands = k; own = own; first-chunk = inl d; entries = m; whole = inl (inl d) }
+      go e k (inr y) m =
+          let c : FirstChunkIs file s (x .flags) start (start + x .size-of-chunk-0) after own = record { chunk = y .1; end = omega (arith, y .0) } in
+          record { prefix = x; start = start; prefix-stands = h; prefix-same = r; checksum-stands = k; own = own; first-chunk = inr c; entries = m; whole = blocks (whole-of at start after own xs x h k c m) }
         where
           blocks : InBlocks file s (x .flags) xs ⊎ WholeIs file s at after (length xs) (messages xs) xs
               → (ChunkDiffers file s (x .flags) start (start + x .size-of-chunk-0) ⊎ InBlocks file s (x .flags) xs) ⊎ WholeIs file s at after (length xs) (messages xs) xs
           blocks (inl d) = inl (inr d)
           blocks (inr w) = inr w
 
-  -- what closes the header ends in the file, 4 bytes behind the chunk or behind the run
-  closing : (o e last next : ℕ) → Stands file (headerEnd (sumMatches file) o e last) last next tt → (next ≡ max last e + 4) × (next ≤ length file)
+  -- what closes the header ends 4 bytes behind the chunk or behind the run, and the checksum is the specification's
+  closing : (o e last next : ℕ) → Stands file (headerEnd (sumMatches file) o e last) last next tt → (next ≡ max last e + 4) × ChecksumStands file o e
   unfolding headerEnd
   closing o e last next h =
-      let d = stands-check file (sumMatches file o e) 28 nothing (last + (e - last) + 4) next tt (h .1 .1) .1 .0 in
-      (omega (arith, d), omega (arith, d, h .1 .0))
+      let c = stands-check file (sumMatches file o e) 28 nothing (last + (e - last) + 4) next tt (h .1 .1) in
+      (omega (arith, c .1 .0), (omega (arith, h .1 .0), matches-is file o e (c .0)))
 
   module _ (enough : 4095 ≤ longest) where
     pub reading-is : {at after : ℕ} {xs : List Item} (h : HeaderReading file s at after xs) → HeaderIs at after (length xs) (messages xs) (h .fields) xs

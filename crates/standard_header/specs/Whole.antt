@@ -64,7 +64,7 @@ module _ (file : List ℕ) (s : State) (header-flags : ℕ) where
     where
       go : InBlocks all ⊎ WholeChunk (b .start) (o + l - 4) all → InBlocks all ⊎ WholeBlock o l all
       go (inl d) = inl d
-      go (inr w) = inr (record { messages = w .messages; stands = block (b .start) (b .signature) (b .signature-stands) (w .chunk) (b .checksum); same = w .same })
+      go (inr w) = inr (record { messages = w .messages; stands = block (b .start) (b .signature) (b .signature-stands) (w .chunk) (b .checksum-stands); same = w .same })
 
   one-continuation : (p q o l : ℕ) (own all block-own block-all : List Item) → BlockDiffers file s header-flags o l ⊎ BlockIs file s header-flags o l block-own → WholeFrom block-own block-all → WholeFrom own all
       → WholeFrom (item p q (continuation o l) ∷ own) (item p q (continuation o l) ∷ (block-all ++ all))

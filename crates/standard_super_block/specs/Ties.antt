@@ -1,9 +1,10 @@
 -- The superblock that is read is the specification's, and a superblock of the specification is read. Entries are those of docs/DIFFERENCES.md,
 -- part one. Assumes nothing.
-use Prim.Native.Nat.{ℕ, _≤_}
+use Prim.Native.Nat.{ℕ, _+_, _-_, _≤_}
 use mathlib.Core.Path.{_≡_, refl, ap, _∙_}
 use mathlib.Core.Bool.{true, _||_}
 use mathlib.Core.List.{List}
+use native.Mathlib.Omega.{arith}
 use lib.ListN.{length}
 use lib.Dec.{eqb}
 use borrow.Author.Tests.{eq-eqb, le-leb}
@@ -11,11 +12,13 @@ use Rattle.format.specs.Bytes.{le}
 use Rattle.format.specs.Format.{Stands, found}
 use Rattle.format.specs.Laws.{complete}
 use Rattle.format.specs.Standing.{stands-check}
+use Rattle.lookup3.specs.Lookup3.{checksum}
+use Rattle.lookup3.specs.Laws.{is-matches}
 use Rattle.parser.specs.States.{fileLimit, widthAllowed}
 use Rattle.super_block.specs.declared.SuperBlock.{SuperBlock}
 use Rattle.super_block.specs.SuperBlocks.{addresses, superBlock, superBlockOf}
 use Rattle.standard.specs.Tie.{Tied, tied-done, tied-number, tied-check, tied-only}
-use Rattle.standard.specs.Superblocks.{Superblock, signature, superblock23}
+use Rattle.standard.specs.Superblocks.{Superblock, signature, superblock23, ValidChecksum}
 
 -- each value that is handed on is the field of that name; an undefined address is the number that all ones are (entry 97)
 pub record SameSuperBlock (ours : SuperBlock) (theirs : Superblock) : Type 0 where
@@ -55,13 +58,14 @@ super-block-tied =
       root-group-object-header-address = refl;
     }))))))))))))))))))
 
--- What is asked of a superblock of the specification so that it is read: a file that is not too large (part two, entry 2), widths of 2 to 8 bytes
--- (entry 2), and a base address of 0 (entry 95).
-pub record ReadSuperblock (file : List ℕ) (x : Superblock) : Type 0 where
+-- What is asked of a superblock of the specification up to `end` so that it is read: a file that is not too large (part two, entry 2), widths of 2
+-- to 8 bytes (entry 2), a base address of 0 (entry 95), and the checksum that the specification asks for.
+pub record ReadSuperblock (file : List ℕ) (end : ℕ) (x : Superblock) : Type 0 where
   pub small : length file ≤ fileLimit
   pub offsets : widthAllowed (x .size-of-offsets) ≡ true
   pub lengths : widthAllowed (x .size-of-lengths) ≡ true
   pub base : x .base-address ≡ 0
+  pub checksum : ValidChecksum file end x
 
 -- the superblock that is handed on of one of the specification
 abbrev handed : Superblock → SuperBlock
@@ -75,8 +79,19 @@ handed x =
       «root_group_object_header_address» = x .root-group-object-header-address;
     }
 
+-- the checksum is stored in the last four bytes of the superblock
+pub checksum-field : (s : List ℕ) (q : ℕ) (x : Superblock) → Stands s superblock23 0 q x → le s (q - 4) 4 ≡ x .superblock-checksum
+unfolding superblock23
+checksum-field s q x h =
+    let a = stands-check s (eqb (le s 0 8) signature) 0 _ 8 q x (h .1) in
+    let b = stands-check s (eqb (le s 8 1) 2 || eqb (le s 8 1) 3) 0 _ 9 q x (a .1 .1) in
+    let d = b .1 .1 .1 .1 .1 .1 .1 .1 .1 in
+    let o = le s 9 1 in
+    let k : q - 4 ≡ 12 + o + o + o + o = omega (arith, d .0) in
+    ap (λ (p : ℕ). le s p 4) k ∙ ap (λ (y : Superblock). y .superblock-checksum) (d .1)
+
 -- such a superblock stands in our format over the same bytes
-stands : (s : List ℕ) (q : ℕ) (x : Superblock) → ReadSuperblock s x → Stands s superblock23 0 q x → Stands s superBlock 0 q (handed x)
+stands : (s : List ℕ) (q : ℕ) (x : Superblock) → ReadSuperblock s q x → Stands s superblock23 0 q x → Stands s superBlock 0 q (handed x)
 unfolding superBlock addresses superblock23
 stands s q x r h =
     let a = stands-check s (eqb (le s 0 8) signature) 0 _ 8 q x (h .1) in
@@ -88,13 +103,17 @@ stands s q x r h =
     let z = eq-eqb (le s 12 (le s 9 1)) 0 (ap (λ (y : Superblock). y .base-address) e ∙ r .base) in
     (h .0, rw (a .0) (a .1 .0, rw (b .0) (b .1 .0, rw o (b .1 .1 .0, rw l (b .1 .1 .1 .0, (w .0, rw z (w .1 .0, (w .1 .1 .0, (w .1 .1 .1 .0, (w .1 .1 .1 .1 .0, (w .1 .1 .1 .1 .1 .0, ap handed e)))))))))))
 
+-- its checksum is the one that is asked for
+valid : (file : List ℕ) (q : ℕ) (x : Superblock) → Stands file superblock23 0 q x → ValidChecksum file q x → le file (q - 4) 4 ≡ checksum file 0 (q - 4 - 0)
+valid file q x h v = let e : q - 4 - 0 ≡ q - 4 = omega arith in rw e (checksum-field file q x h ∙ v)
+
 -- and so it is read, with its fields
-pub superblock-is-read : (file : List ℕ) (q : ℕ) (x : Superblock) → Stands file superblock23 0 q x → ReadSuperblock file x
+pub superblock-is-read : (file : List ℕ) (q : ℕ) (x : Superblock) → Stands file superblock23 0 q x → ReadSuperblock file q x
     → (b : SuperBlock) × (superBlockOf file ≡ found b q) × SameSuperBlock b x
 unfolding superBlockOf
 superblock-is-read file q x h r = (
   handed x,
-  rw (le-leb (length file) fileLimit (r .small)) (complete file superBlock 0 q (handed x) (stands file q x r h)),
+  rw (le-leb (length file) fileLimit (r .small), complete file superBlock 0 q (handed x) (stands file q x r h), is-matches file 0 (q - 4) (valid file q x h (r .checksum))),
   record {
     size-of-offsets = refl;
     size-of-lengths = refl;

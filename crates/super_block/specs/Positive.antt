@@ -1,16 +1,18 @@
 -- No refusal of a superblock has the number 0, since none of its tests has. Assumes nothing.
-use Prim.Native.Nat.{ℕ, _+_}
-use mathlib.Core.Path.{_≡_, sym}
+use Prim.Native.Nat.{ℕ, _+_, _-_}
+use mathlib.Core.Path.{_≡_, refl, sym, _∙_}
 use mathlib.Core.Bool.{Bool, true, false, _||_}
 use mathlib.Core.List.{List}
 use native.Mathlib.Omega.{arith}
 use lib.ListN.{length}
 use lib.Dec.{eqb, leb}
 use Rattle.format.specs.Bytes.{le}
-use Rattle.format.specs.Format.{Format, done, number, Out, refused, read, pick, check}
+use Rattle.format.specs.Format.{Format, done, number, Out, found, refused, read, pick, check}
 use Rattle.format.specs.Laws.{never}
+use Rattle.lookup3.specs.Lookup3.{sumMatches}
 use Rattle.parser.specs.States.{fileLimit, widthAllowed}
-use Rattle.super_block.specs.SuperBlocks.{addresses, formatSignature, superBlock, superBlockOf}
+use Rattle.super_block.specs.declared.SuperBlock.{SuperBlock}
+use Rattle.super_block.specs.SuperBlocks.{addresses, formatSignature, superBlock, summed, superBlockOf}
 
 -- one refusal is no other
 refusal : {A : Type 0} {m n : ℕ} → _≡_ {A = Out A} (refused m) (refused n) → m ≡ n
@@ -61,6 +63,14 @@ module _ (s : List ℕ) where
           number-positive 1 _ q (λ flags q.
           addresses-positive offsets lengths q)))))))))
 
-      go : (t : Bool) → pick t (read s superBlock 0) (refused 2) ≡ refused 0 → ⊥
-      go true d = block d
+      summed-positive : (o : Out SuperBlock) → read s superBlock 0 ≡ o → summed s o ≡ refused 0 → ⊥
+      summed-positive (found b q) e d = matched (sumMatches s 0 (q - 4)) d
+        where
+          matched : (t : Bool) → pick t (found b q) (refused 28) ≡ refused 0 → ⊥
+          matched true d = never (sym d)
+          matched false d = let z : _≡_ {A = ℕ} 28 0 = refusal d in omega arith
+      summed-positive (refused n) e d = block (e ∙ d)
+
+      go : (t : Bool) → pick t (summed s (read s superBlock 0)) (refused 2) ≡ refused 0 → ⊥
+      go true d = summed-positive (read s superBlock 0) refl d
       go false d = let z : _≡_ {A = ℕ} 2 0 = refusal d in omega arith

@@ -1,14 +1,15 @@
 -- II.A, the superblock of versions 2 and 3, its fields in the order of the table. Assumes nothing: these are definitions.
-use Prim.Native.Nat.{ℕ}
+use Prim.Native.Nat.{ℕ, _-_}
 use mathlib.Core.Bool.{_||_}
 use mathlib.Core.List.{List}
 use lib.ListN.{length}
 use lib.Dec.{eqb, leb}
-use Rattle.format.specs.Format.{Format, done, number, check, pick, Out, refused, read}
+use Rattle.format.specs.Format.{Format, done, number, check, pick, Out, found, refused, read}
+use Rattle.lookup3.specs.Lookup3.{sumMatches}
 use Rattle.parser.specs.States.{fileLimit, widthAllowed}
 use Rattle.super_block.specs.declared.SuperBlock.{SuperBlock}
 
--- the fields from the base address on, which is zero; the others may have any value, and the checksum is not tested
+-- the fields from the base address on, which is zero; the others may have any value
 unfoldable pub addresses : ℕ → ℕ → Format SuperBlock
 addresses size-of-offsets size-of-lengths =
     number size-of-offsets (λ base-address.
@@ -44,6 +45,11 @@ superBlock =
     number 1 (λ file-consistency-flags.
     addresses size-of-offsets size-of-lengths)))))))))
 
+-- The checksum is the last field, and is that of the bytes before it; where it is not, 28.
+abbrev pub summed : List ℕ → Out SuperBlock → Out SuperBlock
+summed file (found b q) = pick (sumMatches file 0 (q - 4)) (found b q) (refused 28)
+summed file (refused n) = refused n
+
 -- The superblock of a file stands at byte 0; 2 comes first.
 unfoldable pub superBlockOf : List ℕ → Out SuperBlock
-superBlockOf file = pick (leb (length file) fileLimit) (read file superBlock 0) (refused 2)
+superBlockOf file = pick (leb (length file) fileLimit) (summed file (read file superBlock 0)) (refused 2)

@@ -6,13 +6,14 @@ use helpers::le_u8;
 use helpers::le_u32;
 use helpers::le_u64;
 use helpers::varint;
+use lookup3::checksum_matches;
 use parser::FILE_LIMIT;
 use parser::width_allowed;
 use records::Refusal;
 ghost use mathlib.Core.Path.{_≡_};
 ghost use Prim.Native.Nat.{_≤_};
 ghost use Rattle.format.specs.Format.{read};
-ghost use Rattle.super_block.specs.SuperBlocks.{addresses as addressFields, superBlockOf};
+ghost use Rattle.super_block.specs.SuperBlocks.{addresses as addressFields, superBlock, superBlockOf};
 ghost use Rattle.super_block.specs.Answers.{superBlockOut, WidthsRead};
 
 // Widths are in bytes; the base address is 0.
@@ -66,15 +67,10 @@ fn addresses(file: &[u8], at: usize, size_of_offsets: u8, size_of_lengths: u8) -
     SuperBlockRead::Read(block, at)
 }
 
-// The superblock of a file, which stands at its first byte. A file that is too large is refused
-// before a byte of it is read.
-pub fn super_block(file: &[u8]) -> SuperBlockRead
-    ensures { λ r. ⌜ superBlockOut r ≡ superBlockOf (now (file .entry)) ⌝ }
-    ensures { λ r. ⌜ WidthsRead r ⌝ }
+// The fields of a superblock at a file's first byte.
+fn super_block_fields(file: &[u8]) -> SuperBlockRead
+    ensures { λ r. ⌜ superBlockOut r ≡ read (now (file .entry)) superBlock 0 ⌝ }
 {
-    if FILE_LIMIT < file.len() {
-        return SuperBlockRead::Refused(Refusal::FileSize);
-    }
     let ReadU64::Value(signature, at) = le_u64(file, 0) else {
         return SuperBlockRead::Refused(Refusal::Short);
     };
@@ -106,4 +102,24 @@ pub fn super_block(file: &[u8]) -> SuperBlockRead
         return SuperBlockRead::Refused(Refusal::Short);
     };
     addresses(file, at, size_of_offsets, size_of_lengths)
+}
+
+// The superblock of a file, which stands at its first byte. A file that is too large is refused
+// before a byte of it is read, a checksum that does not match after the last field.
+pub fn super_block(file: &[u8]) -> SuperBlockRead
+    ensures { λ r. ⌜ superBlockOut r ≡ superBlockOf (now (file .entry)) ⌝ }
+    ensures { λ r. ⌜ WidthsRead r ⌝ }
+{
+    if FILE_LIMIT < file.len() {
+        return SuperBlockRead::Refused(Refusal::FileSize);
+    }
+    match super_block_fields(file) {
+        SuperBlockRead::Refused(r) => SuperBlockRead::Refused(r),
+        SuperBlockRead::Read(block, at) => {
+            if !checksum_matches(file, 0, at - 4) {
+                return SuperBlockRead::Refused(Refusal::Checksum);
+            }
+            SuperBlockRead::Read(block, at)
+        }
+    }
 }

@@ -1,154 +1,56 @@
--- Each field and its test is one step of the format; the addresses are the rest of it.
+-- The file's size, the fields and the checksum are tested in the definition's order; the checksum lies in the file, since the fields do.
 use native.Mathlib.Omega.{arith}
-use borrow.Author.Tests.{eq-eqb, ne-eqb, le-leb, lt-leb, not-true, not-false}
-use Rattle.format.specs.Steps.{read-number, read-refuse}
-use Rattle.super_block.specs.SuperBlocks.{superBlock, superBlockOf}
-use Rattle.super_block.specs.Laws.{version-other, version-known, with-widths, allowed-most}
+use borrow.Author.Tests.{le-leb, lt-leb, not-true, not-false}
+use Rattle.helpers.specs.Facts.{met}
+use Rattle.super_block.specs.Answers.{superBlockOut}
+use Rattle.super_block.specs.declared.SuperBlockRead.the-variants as blocks
+use Rattle.super_block.specs.Laws.{fields-inside, with-widths}
+use Rattle.super_block.specs.SuperBlocks.{superBlockOf}
 use borrow.Author.Needs.{needs}
 use Rattle.super_block.proofs.super_block.Statement.{statement}
 use Rattle.super_block.proofs.super_block.Tie as tie
 
 returns : tie.Need-returns
-unfolding superBlockOf superBlock
+unfolding superBlockOf
 returns c = (rw (lt-leb _ _ (c .if1 .taken)), tt)
 
-le-u64-requires : tie.Need-le-u64-requires
-le-u64-requires c κs = search needs
+super-block-fields-requires : tie.Need-super-block-fields-requires
+super-block-fields-requires c κs = search needs
 
-enum-known-signature : tie.Need-enum-known-signature
-enum-known-signature c = search needs
+enum-known-r : tie.Need-enum-known-r
+enum-known-r c = search needs
 
-enum-told : tie.Need-enum-told
-enum-told c = search needs
+enum-known-block : tie.Need-enum-known-block
+enum-known-block c = search needs
+
+sub-checksum-matches : tie.Need-sub-checksum-matches
+sub-checksum-matches c = let h = fields-inside (c .before .before .before .before .before .before .args .file .now) _ _ (met superBlockOut (c .before .before .before .super-block-fields .ensures) (c .before .block .given .1)) in omega (arith, h .0)
+
+checksum-matches-requires : tie.Need-checksum-matches-requires
+checksum-matches-requires c κs = let h = fields-inside (c .before .before .before .before .before .before .args .file .now) _ _ (met superBlockOut (c .before .before .before .super-block-fields .ensures) (c .before .block .given .1)) in search needs
 
 returns-2 : tie.Need-returns-2
-unfolding superBlockOf superBlock
-returns-2 c = (rw (le-leb _ _ (c .before .before .before .if1 .left), read-number, ← c .before .before .le-u64 .ensures, c .enum-told .given .1), tt)
+unfolding superBlockOf
+returns-2 c = (rw (le-leb _ _ (c .before .before .before .before .before .before .if1 .left), ← c .before .before .before .before .before .super-block-fields .ensures, c .before .before .before .block .given .1, ← c .before .checksum-matches .ensures, not-true (c .before .checksum-matches .result) (c .if2 .taken)), tt)
 
 returns-3 : tie.Need-returns-3
-unfolding superBlockOf superBlock
-returns-3 c = (rw (le-leb _ _ (c .before .before .before .before .before .if1 .left), read-number, ← c .before .before .before .before .le-u64 .ensures, c .before .before .signature .given .1, ne-eqb _ _ (c .if2 .taken), read-refuse), tt)
-
-le-u8-requires : tie.Need-le-u8-requires
-le-u8-requires c κs = search needs
-
-enum-known-version : tie.Need-enum-known-version
-enum-known-version c = search needs
-
-enum-told-2 : tie.Need-enum-told-2
-enum-told-2 c = search needs
+unfolding superBlockOf
+returns-3 c = (rw (le-leb _ _ (c .before .before .before .before .if1 .left), ← c .before .before .before .super-block-fields .ensures, c .before .r .given .1), tt)
 
 returns-4 : tie.Need-returns-4
-unfolding superBlockOf superBlock
-returns-4 c = (rw (le-leb _ _ (c .before .before .before .before .before .before .before .before .if1 .left), read-number, ← c .before .before .before .before .before .before .before .le-u64 .ensures, c .before .before .before .before .before .signature .given .1, eq-eqb _ _ (c .before .before .before .if2 .left), read-number, ← c .before .before .le-u8 .ensures, c .enum-told2 .given .1), tt)
-
-returns-5 : tie.Need-returns-5
-unfolding superBlockOf superBlock
-returns-5 c = (rw (le-leb _ _ (c .before .before .before .before .before .before .before .before .before .before .if1 .left), read-number, ← c .before .before .before .before .before .before .before .before .before .le-u64 .ensures, c .before .before .before .before .before .before .before .signature .given .1, eq-eqb _ _ (c .before .before .before .before .before .if2 .left), read-number, ← c .before .before .before .before .le-u8 .ensures, c .before .before .version .given .1, version-other (c .before .before .version .given .0 .0) (λ e. omega (arith, c .if3 .taken)) (λ e. omega (arith, c .if3 .taken)), read-refuse), tt)
-
-returns-6 : tie.Need-returns-6
-unfolding superBlockOf superBlock
-returns-6 c = (rw (le-leb _ _ (c .before .before .before .before .before .before .before .before .before .before .before .if1 .left), read-number, ← c .before .before .before .before .before .before .before .before .before .before .le-u64 .ensures, c .before .before .before .before .before .before .before .before .signature .given .1, eq-eqb _ _ (c .before .before .before .before .before .before .if2 .left), read-number, ← c .before .before .before .before .before .le-u8 .ensures, c .before .before .before .version .given .1, version-other (c .before .before .before .version .given .0 .0) (λ e. omega (arith, c .if4 .taken)) (λ e. omega (arith, c .if4 .taken)), read-refuse), tt)
-
-le-u8-requires-2 : tie.Need-le-u8-requires-2
-le-u8-requires-2 c κs = search needs
-
-enum-known-size-of-offsets : tie.Need-enum-known-size-of-offsets
-enum-known-size-of-offsets c = search needs
-
-enum-told-3 : tie.Need-enum-told-3
-enum-told-3 c = search needs
-
-returns-7 : tie.Need-returns-7
-unfolding superBlockOf superBlock
-returns-7 c = (rw (le-leb _ _ (c .before .before .before .before .before .before .before .before .before .before .before .before .before .before .if1 .left), read-number, ← c .before .before .before .before .before .before .before .before .before .before .before .before .before .le-u64 .ensures, c .before .before .before .before .before .before .before .before .before .before .before .signature .given .1, eq-eqb _ _ (c .before .before .before .before .before .before .before .before .before .if2 .left), read-number, ← c .before .before .before .before .before .before .before .before .le-u8 .ensures, c .before .before .before .before .before .before .version .given .1, version-known _ (c .before .before .before .before .if3 .left) (c .before .before .before .if4 .left), read-number, ← c .before .before .le-u82 .ensures, c .enum-told3 .given .1), tt)
-
-cast-width-allowed : tie.Need-cast-width-allowed
-cast-width-allowed c = search needs
-
-width-allowed-requires : tie.Need-width-allowed-requires
-width-allowed-requires c κs = search needs
-
-returns-8 : tie.Need-returns-8
-unfolding superBlockOf superBlock
-returns-8 c = (rw (le-leb _ _ (c .before .before .before .before .before .before .before .before .before .before .before .before .before .before .before .before .before .if1 .left), read-number, ← c .before .before .before .before .before .before .before .before .before .before .before .before .before .before .before .before .le-u64 .ensures, c .before .before .before .before .before .before .before .before .before .before .before .before .before .before .signature .given .1, eq-eqb _ _ (c .before .before .before .before .before .before .before .before .before .before .before .before .if2 .left), read-number, ← c .before .before .before .before .before .before .before .before .before .before .before .le-u8 .ensures, c .before .before .before .before .before .before .before .before .before .version .given .1, version-known _ (c .before .before .before .before .before .before .before .if3 .left) (c .before .before .before .before .before .before .if4 .left), read-number, ← c .before .before .before .before .before .le-u82 .ensures, c .before .before .before .size-of-offsets .given .1, ← c .before .width-allowed .ensures, not-true (c .before .width-allowed .result) (c .if5 .taken), read-refuse), tt)
-
-le-u8-requires-3 : tie.Need-le-u8-requires-3
-le-u8-requires-3 c κs = search needs
-
-enum-known-size-of-lengths : tie.Need-enum-known-size-of-lengths
-enum-known-size-of-lengths c = search needs
-
-enum-told-4 : tie.Need-enum-told-4
-enum-told-4 c = search needs
-
-returns-9 : tie.Need-returns-9
-unfolding superBlockOf superBlock
-returns-9 c = (rw (le-leb _ _ (c .before .before .before .before .before .before .before .before .before .before .before .before .before .before .before .before .before .before .before .before .if1 .left), read-number, ← c .before .before .before .before .before .before .before .before .before .before .before .before .before .before .before .before .before .before .before .le-u64 .ensures, c .before .before .before .before .before .before .before .before .before .before .before .before .before .before .before .before .before .signature .given .1, eq-eqb _ _ (c .before .before .before .before .before .before .before .before .before .before .before .before .before .before .before .if2 .left), read-number, ← c .before .before .before .before .before .before .before .before .before .before .before .before .before .before .le-u8 .ensures, c .before .before .before .before .before .before .before .before .before .before .before .before .version .given .1, version-known _ (c .before .before .before .before .before .before .before .before .before .before .if3 .left) (c .before .before .before .before .before .before .before .before .before .if4 .left), read-number, ← c .before .before .before .before .before .before .before .before .le-u82 .ensures, c .before .before .before .before .before .before .size-of-offsets .given .1, ← c .before .before .before .before .width-allowed .ensures, not-false (c .before .before .before .before .width-allowed .result) (c .before .before .before .if5 .left), read-number, ← c .before .before .le-u83 .ensures, c .enum-told4 .given .1), tt)
-
-cast-width-allowed-2 : tie.Need-cast-width-allowed-2
-cast-width-allowed-2 c = search needs
-
-width-allowed-requires-2 : tie.Need-width-allowed-requires-2
-width-allowed-requires-2 c κs = search needs
-
-returns-10 : tie.Need-returns-10
-unfolding superBlockOf superBlock
-returns-10 c = (rw (le-leb _ _ (c .before .before .before .before .before .before .before .before .before .before .before .before .before .before .before .before .before .before .before .before .before .before .before .if1 .left), read-number, ← c .before .before .before .before .before .before .before .before .before .before .before .before .before .before .before .before .before .before .before .before .before .before .le-u64 .ensures, c .before .before .before .before .before .before .before .before .before .before .before .before .before .before .before .before .before .before .before .before .signature .given .1, eq-eqb _ _ (c .before .before .before .before .before .before .before .before .before .before .before .before .before .before .before .before .before .before .if2 .left), read-number, ← c .before .before .before .before .before .before .before .before .before .before .before .before .before .before .before .before .before .le-u8 .ensures, c .before .before .before .before .before .before .before .before .before .before .before .before .before .before .before .version .given .1, version-known _ (c .before .before .before .before .before .before .before .before .before .before .before .before .before .if3 .left) (c .before .before .before .before .before .before .before .before .before .before .before .before .if4 .left), read-number, ← c .before .before .before .before .before .before .before .before .before .before .before .le-u82 .ensures, c .before .before .before .before .before .before .before .before .before .size-of-offsets .given .1, ← c .before .before .before .before .before .before .before .width-allowed .ensures, not-false (c .before .before .before .before .before .before .before .width-allowed .result) (c .before .before .before .before .before .before .if5 .left), read-number, ← c .before .before .before .before .before .le-u83 .ensures, c .before .before .before .size-of-lengths .given .1, ← c .before .width-allowed2 .ensures, not-true (c .before .width-allowed2 .result) (c .if6 .taken), read-refuse), tt)
-
-le-u8-requires-4 : tie.Need-le-u8-requires-4
-le-u8-requires-4 c κs = search needs
-
-enum-known-at : tie.Need-enum-known-at
-enum-known-at c = search needs
-
-enum-told-5 : tie.Need-enum-told-5
-enum-told-5 c = search needs
-
-returns-11 : tie.Need-returns-11
-unfolding superBlockOf superBlock
-returns-11 c = (rw (le-leb _ _ (c .before .before .before .before .before .before .before .before .before .before .before .before .before .before .before .before .before .before .before .before .before .before .before .before .before .before .if1 .left), read-number, ← c .before .before .before .before .before .before .before .before .before .before .before .before .before .before .before .before .before .before .before .before .before .before .before .before .before .le-u64 .ensures, c .before .before .before .before .before .before .before .before .before .before .before .before .before .before .before .before .before .before .before .before .before .before .before .signature .given .1, eq-eqb _ _ (c .before .before .before .before .before .before .before .before .before .before .before .before .before .before .before .before .before .before .before .before .before .if2 .left), read-number, ← c .before .before .before .before .before .before .before .before .before .before .before .before .before .before .before .before .before .before .before .before .le-u8 .ensures, c .before .before .before .before .before .before .before .before .before .before .before .before .before .before .before .before .before .before .version .given .1, version-known _ (c .before .before .before .before .before .before .before .before .before .before .before .before .before .before .before .before .if3 .left) (c .before .before .before .before .before .before .before .before .before .before .before .before .before .before .before .if4 .left), read-number, ← c .before .before .before .before .before .before .before .before .before .before .before .before .before .before .le-u82 .ensures, c .before .before .before .before .before .before .before .before .before .before .before .before .size-of-offsets .given .1, ← c .before .before .before .before .before .before .before .before .before .before .width-allowed .ensures, not-false (c .before .before .before .before .before .before .before .before .before .before .width-allowed .result) (c .before .before .before .before .before .before .before .before .before .if5 .left), read-number, ← c .before .before .before .before .before .before .before .before .le-u83 .ensures, c .before .before .before .before .before .before .size-of-lengths .given .1, ← c .before .before .before .before .width-allowed2 .ensures, not-false (c .before .before .before .before .width-allowed2 .result) (c .before .before .before .if6 .left), read-number, ← c .before .before .le-u84 .ensures, c .enum-told5 .given .1), tt)
-
-addresses-requires : tie.Need-addresses-requires
-addresses-requires c κs = let h = allowed-most (c .before .before .before .before .before .before .before .before .before .before .before .before .before .size-of-offsets .given .0 .0) (c .before .before .before .before .before .before .before .before .before .before .before .width-allowed .ensures) (not-false (c .before .before .before .before .before .before .before .before .before .before .before .width-allowed .result) (c .before .before .before .before .before .before .before .before .before .before .if5 .left)) in search needs
-
-returns-12 : tie.Need-returns-12
-unfolding superBlockOf superBlock
-returns-12 c = with-widths (c .before .before .before .before .before .before .before .before .before .before .before .before .before .before .before .before .before .before .before .before .before .before .before .before .before .before .before .before .before .before .args .file .now) (c .addresses .result) (rw (le-leb _ _ (c .before .before .before .before .before .before .before .before .before .before .before .before .before .before .before .before .before .before .before .before .before .before .before .before .before .before .before .before .if1 .left), read-number, ← c .before .before .before .before .before .before .before .before .before .before .before .before .before .before .before .before .before .before .before .before .before .before .before .before .before .before .before .le-u64 .ensures, c .before .before .before .before .before .before .before .before .before .before .before .before .before .before .before .before .before .before .before .before .before .before .before .before .before .signature .given .1, eq-eqb _ _ (c .before .before .before .before .before .before .before .before .before .before .before .before .before .before .before .before .before .before .before .before .before .before .before .if2 .left), read-number, ← c .before .before .before .before .before .before .before .before .before .before .before .before .before .before .before .before .before .before .before .before .before .before .le-u8 .ensures, c .before .before .before .before .before .before .before .before .before .before .before .before .before .before .before .before .before .before .before .before .version .given .1, version-known _ (c .before .before .before .before .before .before .before .before .before .before .before .before .before .before .before .before .before .before .if3 .left) (c .before .before .before .before .before .before .before .before .before .before .before .before .before .before .before .before .before .if4 .left), read-number, ← c .before .before .before .before .before .before .before .before .before .before .before .before .before .before .before .before .le-u82 .ensures, c .before .before .before .before .before .before .before .before .before .before .before .before .before .before .size-of-offsets .given .1, ← c .before .before .before .before .before .before .before .before .before .before .before .before .width-allowed .ensures, not-false (c .before .before .before .before .before .before .before .before .before .before .before .before .width-allowed .result) (c .before .before .before .before .before .before .before .before .before .before .before .if5 .left), read-number, ← c .before .before .before .before .before .before .before .before .before .before .le-u83 .ensures, c .before .before .before .before .before .before .before .before .size-of-lengths .given .1, ← c .before .before .before .before .before .before .width-allowed2 .ensures, not-false (c .before .before .before .before .before .before .width-allowed2 .result) (c .before .before .before .before .before .if6 .left), read-number, ← c .before .before .before .before .le-u84 .ensures, c .before .before .at .given .1) (c .addresses .ensures))
+unfolding superBlockOf
+returns-4 c = with-widths (c .before .before .before .before .before .before .before .before .args .file .now) (blocks.Read (c .before .before .before .block .given .0 .0) (c .before .before .before .block .given .0 .1 .0)) (rw (le-leb _ _ (c .before .before .before .before .before .before .if1 .left), ← c .before .before .before .before .before .super-block-fields .ensures, c .before .before .before .block .given .1, ← c .before .checksum-matches .ensures, not-false (c .before .checksum-matches .result) (c .if2 .left)))
 
 pub super-block-spec : {M : Type 1} → statement M
 super-block-spec =
     tie.close
     (tie.spec
     returns
-    le-u64-requires
-    enum-known-signature
-    enum-told
+    super-block-fields-requires
+    enum-known-r
+    enum-known-block
+    sub-checksum-matches
+    checksum-matches-requires
     returns-2
     returns-3
-    le-u8-requires
-    enum-known-version
-    enum-told-2
-    returns-4
-    returns-5
-    returns-6
-    le-u8-requires-2
-    enum-known-size-of-offsets
-    enum-told-3
-    returns-7
-    cast-width-allowed
-    width-allowed-requires
-    returns-8
-    le-u8-requires-3
-    enum-known-size-of-lengths
-    enum-told-4
-    returns-9
-    cast-width-allowed-2
-    width-allowed-requires-2
-    returns-10
-    le-u8-requires-4
-    enum-known-at
-    enum-told-5
-    returns-11
-    addresses-requires
-    returns-12)
+    returns-4)

@@ -1,0 +1,3 @@
+pub mod Lookup3
+pub mod Laws
+pub mod Vectors
