@@ -73,9 +73,10 @@ marked =
     ∷ record { file = continued 8 (0x14 ∷ 0x9C ∷ 0x70 ∷ 0x6E ∷ []) ++ blockSum; offsets = 2; lengths = 2; end = 27; outcome = found 1 19 }
     ∷ record { file = continued 7 (0x72 ∷ 0x0A ∷ 0xF3 ∷ 0x4B ∷ []) ++ blockSum; offsets = 2; lengths = 2; end = 27; outcome = refused 19 }
     ∷ record { file = continued 9 (0x51 ∷ 0x29 ∷ 0xB9 ∷ 0xCF ∷ []) ++ blockSum; offsets = 2; lengths = 2; end = 27; outcome = refused 19 }
-    -- a checksum that does not match: of a header by its last bit, of a block by its first
+    -- a checksum that does not match: of a header by its last bit, of a block by its first; one that the file's end cuts
     ∷ record { file = opening ++ (0 ∷ 0xEF ∷ 0x17 ∷ 0x04 ∷ 0x2C ∷ []); offsets = 8; lengths = 8; end = 11; outcome = refused 28 }
     ∷ record { file = continued 8 (0x14 ∷ 0x9C ∷ 0x70 ∷ 0x6E ∷ []) ++ (0x9C ∷ 0xD6 ∷ 0xB8 ∷ 0x85 ∷ []); offsets = 2; lengths = 2; end = 27; outcome = refused 28 }
+    ∷ record { file = opening ++ (0 ∷ 0xEF ∷ 0x17 ∷ 0x14 ∷ []); offsets = 8; lengths = 8; end = 10; outcome = refused 3 }
     ∷ []
 
 -- what a function gives at each case

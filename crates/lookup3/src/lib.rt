@@ -49,10 +49,8 @@ fn mix_line(w: Words, k: u32) -> Words
 fn mix(w: Words) -> Words
     ensures { λ r. ⌜ r ≡ mix w ⌝ }
 {
-    mix_line(
-        mix_line(mix_line(mix_line(mix_line(mix_line(w, 4), 6), 8), 16), 19),
-        4,
-    )
+    let first = mix_line(mix_line(mix_line(w, 4), 6), 8);
+    mix_line(mix_line(mix_line(first, 16), 19), 4)
 }
 
 // One line of the published final, with the names handed on likewise.

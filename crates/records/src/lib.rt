@@ -60,7 +60,7 @@ pub enum Refusal {
     SuperBlockVersion,
     // 27: base address
     BaseAddress,
-    // 28: checksum; no test of it fails yet
+    // 28: checksum
     Checksum,
 }
 

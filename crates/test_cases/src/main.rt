@@ -1,6 +1,6 @@
 // Runs the plain files of the file `files` against their listings, the headers of the file `cases`
-// against theirs and those of the file `messages` against their reports, names each that fails, and
-// says how many of each it ran.
+// against theirs and those of the file `messages` against their reports, and the bytes of the file
+// `sums` against their sums, names each that fails, and says how many of each it ran.
 use test_replayer::Against;
 use test_runner::run_file;
 use test_runner::tell;
@@ -9,6 +9,7 @@ fn run_files(buf: &mut [u8]) {
     tell(b"files", run_file(Against::Listing, b"files", buf));
     tell(b"cases", run_file(Against::HeaderListing, b"cases", buf));
     tell(b"messages", run_file(Against::Report, b"messages", buf));
+    tell(b"sums", run_file(Against::Sum, b"sums", buf));
 }
 
 fn main() {

@@ -1,26 +1,30 @@
-// Whether a case passes: its input has the listing, or the report of its header, that is expected.
+// Whether a case passes: its input has the listing, the report of its header, or the sum, that is
+// expected.
 use data_object_words::header_words;
 use helpers::ReadU8;
 use helpers::ReadU64;
+use helpers::bytes_4;
 use helpers::le_u8;
 use helpers::le_u64;
 use listing_text::list;
 use listing_text::list_header;
+use lookup3::lookup3;
 use row::ROW_WORDS;
 use test_report::ends;
 use test_report::expect_report;
 ghost use mathlib.Core.Path.{_≡_};
 ghost use Rattle.format.specs.Format.{read};
 ghost use Rattle.test_replayer.specs.Leads.{lead as leadFormat, leadOut};
-ghost use Rattle.test_replayer.specs.Passes.{Lists, ListsHeader, HeaderSays, Says};
+ghost use Rattle.test_replayer.specs.Passes.{Lists, ListsHeader, HeaderSays, Sums, Says};
 ghost use Rattle.test_replayer.specs.Replays.{Replays};
 
-// What is expected of an input: the listing of a plain file; or, of a header in a file behind the
-// values that are given by hand, its listing or its report.
+// What is expected of an input: the listing of a plain file; of a header in a file behind the
+// values that are given by hand, its listing or its report; or the sum of its bytes.
 pub enum Against {
     Listing,
     HeaderListing,
     Report,
+    Sum,
 }
 
 // What is given by hand, before the file: the widths of offsets and lengths, the end-of-file address
@@ -121,6 +125,16 @@ fn passes_header(listing: bool, input: &[u8], expected: &[u8]) -> bool
     replays(file, lead, expected)
 }
 
+// Whether the sum of the input is the one that is expected, in four bytes.
+fn sums(input: &[u8], expected: &[u8]) -> bool
+    ensures { λ r. ⌜ Sums (now (input .entry)) (now (expected .entry)) r ⌝ }
+{
+    if expected.len() == 4 {
+        return bytes_4(expected, 0) as u32 == lookup3(input);
+    }
+    false
+}
+
 pub fn passes(against: Against, input: &[u8], expected: &[u8]) -> bool
     ensures { λ r. ⌜ Says against (now (input .entry)) (now (expected .entry)) r ⌝ }
 {
@@ -128,5 +142,6 @@ pub fn passes(against: Against, input: &[u8], expected: &[u8]) -> bool
         Against::Listing => lists(input, expected),
         Against::HeaderListing => passes_header(true, input, expected),
         Against::Report => passes_header(false, input, expected),
+        Against::Sum => sums(input, expected),
     }
 }

@@ -21,6 +21,12 @@ enum-told-3 c = search needs
 passes-header-requires-2 : tie.Need-passes-header-requires-2
 passes-header-requires-2 c κs = search needs
 
+enum-told-4 : tie.Need-enum-told-4
+enum-told-4 c = search needs
+
+sums-requires : tie.Need-sums-requires
+sums-requires c κs = search needs
+
 returns : tie.Need-returns
 returns c = rw (c .before .enum-told .given .1) (c .lists .ensures)
 
@@ -29,6 +35,9 @@ returns-2 c = rw (c .before .enum-told2 .given .1) (c .passes-header .ensures)
 
 returns-3 : tie.Need-returns-3
 returns-3 c = rw (c .before .enum-told3 .given .1) (c .passes-header2 .ensures)
+
+returns-4 : tie.Need-returns-4
+returns-4 c = rw (c .before .enum-told4 .given .1) (c .sums .ensures)
 
 pub passes-spec : {M : Type 1} → statement M
 passes-spec =
@@ -40,6 +49,9 @@ passes-spec =
     passes-header-requires
     enum-told-3
     passes-header-requires-2
+    enum-told-4
+    sums-requires
     returns
     returns-2
-    returns-3)
+    returns-3
+    returns-4)
