@@ -41,8 +41,8 @@ module _ (file : List ℕ) where
   header-matches o e q m h = matches-is file o e (stands-check file (sumMatches file o e) 28 nothing (q + (e - q) + 4) m tt (h .1 .1) .0)
 
   module _ (s : State) where
-    run-matches : {flags level p e q : ℕ} {xs : List Item} → Run (source file s flags) level p e q xs → BlocksMatch xs
-    run-matches r = elim r as (λ level p e q xs y. BlocksMatch xs) (λ level p q xs y. BlocksMatch xs) (λ level o n xs y. Matches o (o + n - 4) × BlocksMatch xs) [
+    run-matches : (flags : ℕ) {level p e q : ℕ} {xs : List Item} → Run (source file s flags) level p e q xs → BlocksMatch xs
+    run-matches flags r = elim r as (λ level p e q xs y. BlocksMatch xs) (λ level p q xs y. BlocksMatch xs) (λ level o n xs y. Matches o (o + n - 4) × BlocksMatch xs) [
       | ends h ↦ tt
       | goes {xs = xs} {ys = ys} h (a → i) (r → j) ↦ both xs ys i j
       | is-message h ↦ (tt, tt)
@@ -51,4 +51,4 @@ module _ (file : List ℕ) where
     ]
 
     pub reading-matches : {at next : ℕ} {xs : List Item} (h : HeaderReading file s at next xs) → Matches at (h .start + h .fields .size) × BlocksMatch xs
-    reading-matches {at} {next} h = (header-matches at (h .start + h .fields .size) (h .rest .last) next (h .rest .close), run-matches (h .rest .run))
+    reading-matches {at} {next} h = (header-matches at (h .start + h .fields .size) (h .rest .last) next (h .rest .close), run-matches (h .fields .flags) (h .rest .run))

@@ -1,14 +1,18 @@
--- Laws of leads and of replaying. Assumes nothing.
+-- Laws of leads, of sums and of replaying. Assumes nothing.
 use Prim.Native.Nat.{ℕ, _-_, _*_, _≤_}
 use mathlib.Core.Path.{_≡_, sym, _∙_}
-use mathlib.Core.Bool.{Bool}
+use mathlib.Core.Bool.{Bool, true, false}
 use mathlib.Core.List.{List}
 use native.Mathlib.Omega.{arith}
 use lib.ListN.{length, getD, take, drop, replicate, length-drop, length-replicate}
 use lib.Seq.{take-all}
+use lib.Dec.{eqb}
+use borrow.Author.Tests.{eqb-true, eq-eqb}
+use Rattle.format.specs.Bytes.{le}
 use Rattle.format.specs.Format.{read}
 use Rattle.format.specs.Laws.{sound}
 use Rattle.helpers.specs.Facts.{met}
+use Rattle.lookup3.specs.Lookup3.{lookup3}
 use Rattle.row.specs.Rows.{rowWords}
 use Rattle.data_object_words.specs.Handed.{Handed}
 use Rattle.data_object_words.specs.Told.{rows-told}
@@ -19,6 +23,7 @@ use Rattle.test_replayer.specs.declared.Lead.{Lead}
 use Rattle.test_replayer.specs.declared.LeadRead.{LeadRead}
 use Rattle.test_replayer.specs.declared.LeadRead.the-variants as leads
 use Rattle.test_replayer.specs.Leads.{lead, leadOut, Compared}
+use Rattle.test_replayer.specs.Passes.{Sums}
 use Rattle.test_replayer.specs.Replays.{Replays}
 
 -- the file behind a lead that was read begins within the input
@@ -33,6 +38,13 @@ part-rest n s = take-all (length s - n) (drop n s) (omega (arith, length-drop n 
 -- what holds of a comparison with bytes holds of one with the text that they are
 pub compared : {xs text expected : List ℕ} {b : Bool} → xs ≡ text → Compared xs expected b → Compared text expected b
 compared e c = (λ h. sym e ∙ c .0 h, λ h. c .1 (e ∙ h))
+
+-- four bytes are compared with the sum as numbers; other lengths are none
+pub sum-compared : (input expected : List ℕ) {x y : ℕ} → length expected ≡ 4 → x ≡ le expected 0 4 → y ≡ lookup3 input → Sums input expected (eqb x y)
+sum-compared input expected {x} {y} l e f = (λ b. (l, sym e ∙ eqb-true x y b ∙ f), λ s. eq-eqb x y (e ∙ s .1 ∙ sym f))
+
+pub sum-other : (input expected : List ℕ) → (length expected ≡ 4 → ⊥) → Sums input expected false
+sum-other input expected n = (λ b. let z : _≡_ {A = ℕ} 0 1 = cc in absurd (omega arith), λ s. absurd (n (s .0)))
 
 -- decoding into 64 empty rows
 module _ (file : List ℕ) (l : Lead) (t w : List ℕ) (h : Handed file (l .offsets) (l .lengths) (l .«end_of_file») (l .position) (length (replicate {A = ℕ} (64 * rowWords) 0)) t w) where
