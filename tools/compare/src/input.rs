@@ -1,5 +1,7 @@
 //! What both sides are given: widths, end-of-file address, header position and file.
 
+use std::ops::Range;
+
 /// Two widths, end-of-file address, header position.
 pub const LEAD: usize = 18;
 
@@ -33,6 +35,28 @@ impl Input {
             position: u64::from_le_bytes(lead[10..18].try_into().ok()?),
             file: file.to_vec(),
         })
+    }
+
+    /// Whether both widths are allowed; no Rust is asked where they are not.
+    pub fn has_widths(&self) -> bool {
+        let widths = 2..=8;
+        widths.contains(&self.offset_width) && widths.contains(&self.length_width)
+    }
+
+    /// Where the header's chunk size stands, as its flags have it.
+    pub fn chunk_size(&self) -> Option<Range<usize>> {
+        const TIMES: u8 = 32;
+        let at = usize::try_from(self.position).ok()?.checked_add(5)?;
+        let flags = self.file.get(at)?;
+        let start = at + if flags & TIMES == 0 { 1 } else { 17 };
+        Some(start..start + (1 << (flags & 3)))
+    }
+
+    /// The header's chunk, as its size has it.
+    pub fn chunk(&self) -> Option<Range<usize>> {
+        let field = self.chunk_size()?;
+        let size = get(self.file.get(field.clone())?) as usize;
+        Some(field.end..field.end.checked_add(size)?)
     }
 
     /// The lead bytes and the file as hexadecimal digits.

@@ -5,6 +5,7 @@
 #![allow(clippy::duplicate_mod)]
 
 pub mod answer;
+pub mod closing;
 pub mod generate;
 mod hdf;
 mod hdf_mended;
@@ -15,6 +16,7 @@ pub mod random;
 pub mod real;
 pub mod rust;
 pub mod scan;
+pub mod sum;
 
 /// The crates, the sources and the archive that this program was built of.
 pub const VERSIONS: &str = include_str!("versions.txt");

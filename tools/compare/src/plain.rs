@@ -1,5 +1,7 @@
 //! Plain files: what the root operation is given. Their superblock begins at byte 0.
 
+use std::borrow::Cow;
+
 pub const SIGNATURE: &[u8] = b"\x89HDF\r\n\x1a\n";
 /// Where the version of a superblock stands.
 pub const VERSION: usize = SIGNATURE.len();
@@ -20,4 +22,14 @@ pub fn address(number: usize, offset_width: u64) -> usize {
 /// Where a superblock of version 2 or 3 ends.
 pub fn end(offset_width: u64) -> usize {
     address(4, offset_width) + 4
+}
+
+/// A file as the Rust is given it, since it does not read version 3: with version 2 in its place.
+/// The other fields are the same.
+pub fn as_version_2(file: &[u8]) -> Cow<'_, [u8]> {
+    let mut given = Cow::Borrowed(file);
+    if version(file) == Some(3) {
+        given.to_mut()[VERSION] = 2;
+    }
+    given
 }

@@ -1,5 +1,6 @@
 //! Inputs at the limits that only large files reach.
 
+use crate::closing::make_true;
 use crate::input::{Input, put};
 
 const LARGEST_CHUNK: usize = 16_777_216;
@@ -7,8 +8,17 @@ const LARGEST_CHUNK: usize = 16_777_216;
 const LARGEST_PASSED: u64 = 1_048_576;
 const CHUNK_OF_4_BYTES: u8 = 2;
 
-/// A few large inputs, the same every time.
+/// A few large inputs, the same every time, with true sums; and the largest chunk with a false one.
 pub fn inputs() -> Vec<Input> {
+    let mut inputs = made();
+    inputs.iter_mut().for_each(make_true);
+    let mut flipped = inputs[1].clone();
+    flipped.file[LARGEST_CHUNK] ^= 1;
+    inputs.push(flipped);
+    inputs
+}
+
+fn made() -> Vec<Input> {
     let mut inputs = Vec::new();
     for size in [LARGEST_CHUNK - 1, LARGEST_CHUNK, LARGEST_CHUNK + 1] {
         inputs.push(full_chunk(size));
@@ -19,12 +29,12 @@ pub fn inputs() -> Vec<Input> {
             inputs.push(numbers(size, elements, given as usize));
         }
     }
-    inputs.push(one_message(0, &[7; 65_535]));
-    inputs.push(one_message(4, &sized(65_531, 4)));
-    inputs.push(one_message(4, &sized(900_000, 4)));
-    inputs.push(one_message(8, &[&[3, 0], &sized(65_535, 2)[..]].concat()));
+    inputs.push(one_message(0, 65_535, &[7; 65_535]));
+    inputs.push(one_message(4, 4, &sized(65_531, 4)));
+    inputs.push(one_message(4, 4, &sized(900_000, 4)));
+    inputs.push(one_message(8, 4, &[&[3, 0], &sized(65_535, 2)[..]].concat()));
     for name in [65_527, 65_528, 65_529] {
-        inputs.push(one_message(11, &named_filter(name)));
+        inputs.push(one_message(11, 24, &named_filter(name)));
     }
     inputs
 }
@@ -65,10 +75,11 @@ fn full_chunk(size: usize) -> Input {
     with_file(file)
 }
 
-/// One message whose body may be longer than its size, and a file that goes on behind it.
-fn one_message(kind: u8, body: &[u8]) -> Input {
-    let mut file = header(4);
-    entry(&mut file, kind, if kind == 0 { body.len() } else { 0 });
+/// One message whose body may be longer than its size, and a file that goes on behind it. The sum is
+/// stored behind its size, where nothing reads the bytes of a longer body.
+fn one_message(kind: u8, size: usize, body: &[u8]) -> Input {
+    let mut file = header(4 + size);
+    entry(&mut file, kind, size);
     file.extend(body);
     file.resize(file.len() + 4, 0);
     with_file(file)
@@ -89,8 +100,9 @@ fn numbers(size: u64, elements: u64, given: usize) -> Input {
     body.extend([0; 4]);
     body.extend([2, 1, 0, 0]);
     put(&mut body, elements, 8);
-    body.resize(body.len() + given, 5);
-    one_message(12, &body)
+    let fields = body.len();
+    body.resize(fields + given, 5);
+    one_message(12, fields, &body)
 }
 
 /// A filter of version 1 with a long name, and a second one behind it.

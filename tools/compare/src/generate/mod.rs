@@ -8,11 +8,14 @@ mod maker;
 mod messages;
 mod piece;
 pub mod plain;
+mod sums;
 mod types;
 
+use crate::closing::make_true;
 use crate::input::Input;
 use crate::random::Random;
 use maker::Maker;
+use sums::Sums;
 
 /// The inputs of a batch.
 pub const BATCH: usize = 1000;
@@ -24,11 +27,15 @@ pub fn batch(seed: u64, number: u64, real: &[Input], show: &mut dyn FnMut(&Input
     let mut random = Random::new(seed, number);
     // A batch of those that are made, and one of the damaged.
     let early = matches!(number % 20, 7 | 14);
+    let of_real = number % 20 >= 17 && !real.is_empty();
+    let of_good = matches!(number % 20, 8..15);
+    let mut sums = Sums::new(seed, number, of_good || of_real);
+    let mut show = |input: &Input| show(&sums.done(input.clone()));
     match number % 20 {
-        8..15 => damaged(&mut random, early, show),
+        _ if of_good => damaged(&mut random, early, &mut show),
+        _ if of_real => damaged_real(&mut random, real, &mut show),
         15 => (0..BATCH).for_each(|_| show(&spliced(&mut random))),
         16 => (0..BATCH).for_each(|_| show(&damage::short(&mut random))),
-        17.. if !real.is_empty() => damaged_real(&mut random, real, show),
         _ => (0..BATCH).for_each(|_| show(&Maker::new(&mut random).early(early).input())),
     }
 }
@@ -36,7 +43,8 @@ pub fn batch(seed: u64, number: u64, real: &[Input], show: &mut dyn FnMut(&Input
 fn damaged(random: &mut Random, early: bool, show: &mut dyn FnMut(&Input)) {
     let mut left = BATCH;
     while left > 0 {
-        let input = Maker::good(random).early(early).input();
+        let mut input = Maker::good(random).early(early).input();
+        make_true(&mut input);
         let range = 0..input.file.len();
         left -= damage::every_byte_of(&input, range, left, random, show);
     }

@@ -1,7 +1,9 @@
 //! Plain files: a superblock in front of the file of a header that leads to the header.
 
 use super::maker::Maker;
+use super::sums::Sums;
 use super::{BATCH, damage};
+use crate::closing::make_true;
 use crate::input::{Input, put};
 use crate::plain::SIGNATURE;
 use crate::random::Random;
@@ -25,10 +27,14 @@ enum Fault {
 /// Shows the plain files of a batch. `real` are real files, if any.
 pub fn plain_batch(seed: u64, number: u64, real: &[Vec<u8>], show: &mut dyn FnMut(&[u8])) {
     let mut random = Random::new(seed, FIRST_BATCH + number);
+    let of_real = number % 8 == 7 && !real.is_empty();
+    let of_good = matches!(number % 8, 4..7);
+    let mut sums = Sums::new(seed, FIRST_BATCH + number, of_good || of_real);
+    let mut show = |file: &[u8]| show(&sums.done(file.to_vec()));
     match number % 8 {
-        4..6 => damaged(&mut random, false, show),
-        6 => damaged(&mut random, true, show),
-        7 if !real.is_empty() => damaged_real(&mut random, real, show),
+        4..6 => damaged(&mut random, false, &mut show),
+        6 => damaged(&mut random, true, &mut show),
+        _ if of_real => damaged_real(&mut random, real, &mut show),
         _ => (0..BATCH).for_each(|_| show(&made(&mut random))),
     }
 }
@@ -55,7 +61,8 @@ fn damaged(random: &mut Random, whole: bool, show: &mut dyn FnMut(&[u8])) {
     let mut left = BATCH;
     while left > 0 {
         let mut maker = Maker::good(random);
-        let file = maker.plain(Fault::Nothing);
+        let mut file = maker.plain(Fault::Nothing);
+        make_true(&mut file);
         let end = if whole { file.len() } else { maker.front + 1 };
         let range = 0..end.min(file.len());
         left -= damage::every_byte(&file, range, left, random, &mut |copy| show(copy));

@@ -11,14 +11,21 @@ use super::hdf::ohdr_message::{HeaderMessage, HeaderMessageKind, collect_all_mes
 use super::hdf::parser::{Input as Stream, State, parse};
 use super::hdf::super_block::{SuperBlock, super_block};
 use crate::answer::{self, Dimensions, Format, Header, Records, Row};
-use crate::input::{Input, get};
-use crate::rust::{Answer, Entry, answer_of, silence};
-
-const CONTINUATION: u8 = 16;
+use crate::input::Input;
+use crate::rust::{Answer, CONTINUATION, Entry, answer_of, silence};
 
 /// The Rust's answer. The thread needs a stack of `STACK` bytes.
 pub fn rust_answer(input: &Input) -> Answer {
     answer_of(|| header(input), Reading::header)
+}
+
+/// The Rust's answer without what it reads: an accepted header is empty.
+pub fn rust_walk(input: &Input) -> Answer {
+    let read = || {
+        let mut stream = stream_at(input, input.position as usize)?;
+        data_object::data_object("header").parse_next(&mut stream)
+    };
+    answer_of(read, |_, _| Header::default())
 }
 
 /// `data_object` alone, as a caller of the Rust has it: the position after the header and how many
@@ -93,13 +100,9 @@ fn header(input: &Input) -> ModalResult<Reading> {
 
 /// The messages of a header that `data_object` accepted up to `next`.
 fn messages(input: &Input, flags: DataObjectFlags, next: usize) -> Vec<HeaderMessage> {
-    let times = flags.contains(DataObjectFlags::TIMESTAMPS_STORED);
-    let width = 1 << (flags & DataObjectFlags::SIZE_OF_CHUNK).bits();
-    let field = input.position as usize + if times { 22 } else { 6 };
-    let start = field + width;
-    let end = start + get(&input.file[field..start]) as usize;
-    let mut stream = stream_at(input, start).expect("accepted before");
-    let messages = collect_all_messages(&mut stream, end, flags).expect("accepted before");
+    let chunk = input.chunk().expect("accepted before");
+    let mut stream = stream_at(input, chunk.start).expect("accepted before");
+    let messages = collect_all_messages(&mut stream, chunk.end, flags).expect("accepted before");
     assert_eq!(
         stream.current_token_start() + 4,
         next,

@@ -2,7 +2,8 @@
 //!
 //! `data_object` gives the records and the end; `collect_all_messages` over the same header gives
 //! the messages, which `data_object` does not hand back. Neither tells the types, the positions of
-//! bodies and the entries read: those come from the line that the Rust logs for each entry.
+//! bodies and the entries read: those come from the line that the Rust logs for each entry. That a
+//! block is closed comes from the line that it logs when it comes back from it.
 
 pub mod mended;
 pub mod published;
@@ -20,6 +21,8 @@ use crate::answer::Header;
 pub const ENTRIES: usize = 4096;
 /// What a thread that asks the Rust needs: its types nest as deep as the file says.
 pub const STACK: usize = 1 << 30;
+/// The type of an entry that opens a block.
+pub const CONTINUATION: u8 = 16;
 
 #[derive(Clone, Debug, PartialEq, Eq)]
 pub enum Outcome {
@@ -41,6 +44,8 @@ pub struct Entry {
 pub struct Answer {
     pub outcome: Outcome,
     pub entries: Vec<Entry>,
+    /// For each block that was closed how many entries were begun by then.
+    pub closed: Vec<usize>,
 }
 
 /// Once for each process, before the first question: listens to the log, and silences panics.
@@ -59,7 +64,9 @@ fn answer_of<R>(
 ) -> Answer {
     listen();
     let read = catch_unwind(AssertUnwindSafe(reading));
-    let entries = heard();
+    let Heard {
+        entries, closed, ..
+    } = heard();
     let to_header = |read: ModalResult<R>| read.map(|reading| header(reading, &entries));
     let read = read.and_then(|read| catch_unwind(AssertUnwindSafe(|| to_header(read))));
     let outcome = match read {
@@ -68,7 +75,11 @@ fn answer_of<R>(
         Err(thrown) if thrown.is::<TooMany>() => Outcome::TooMany,
         Err(thrown) => Outcome::Panicked(message_of(thrown)),
     };
-    Answer { outcome, entries }
+    Answer {
+        outcome,
+        entries,
+        closed,
+    }
 }
 
 fn message_of(thrown: Box<dyn Any + Send>) -> String {
@@ -89,6 +100,7 @@ struct TooMany;
 struct Heard {
     listening: bool,
     entries: Vec<Entry>,
+    closed: Vec<usize>,
 }
 
 thread_local! {
@@ -96,18 +108,15 @@ thread_local! {
 }
 
 fn listen() {
-    HEARD.with_borrow_mut(|heard| {
-        heard.listening = true;
-        heard.entries.clear();
+    HEARD.set(Heard {
+        listening: true,
+        ..Heard::default()
     });
 }
 
 /// Ends the listening.
-fn heard() -> Vec<Entry> {
-    HEARD.with_borrow_mut(|heard| {
-        heard.listening = false;
-        std::mem::take(&mut heard.entries)
-    })
+fn heard() -> Heard {
+    HEARD.take()
 }
 
 fn silence() {
@@ -118,7 +127,8 @@ struct Listener;
 
 impl log::Log for Listener {
     fn enabled(&self, about: &log::Metadata) -> bool {
-        about.level() == log::Level::Debug && about.target().ends_with("ohdr_message")
+        let levels = [log::Level::Debug, log::Level::Info];
+        levels.contains(&about.level()) && about.target().ends_with("ohdr_message")
     }
 
     fn log(&self, record: &log::Record) {
@@ -135,8 +145,13 @@ impl log::Log for Listener {
 }
 
 impl Heard {
-    /// Notes the entry that a line tells of. True where there are too many.
+    /// Notes the entry, or the end of a block, that a line tells of. True where there are too many
+    /// entries.
     fn hear(&mut self, line: &fmt::Arguments) -> bool {
+        if line.as_str() == Some(CLOSED) {
+            self.closed.push(self.entries.len());
+            return false;
+        }
         let mut start = LineStart::default();
         // The line is cut on purpose once it is long enough.
         let _ = start.write_fmt(*line);
@@ -150,6 +165,9 @@ impl Heard {
         false
     }
 }
+
+/// The line of a block that is closed.
+const CLOSED: &str = " continue back";
 
 /// The line of an entry, up to its size: `message_entry: @0x1b kind=12 size=`.
 #[derive(Default)]

@@ -4,8 +4,9 @@ use std::collections::{BTreeMap, BTreeSet};
 
 use sides::answer::Header;
 use sides::scan::Form;
+use sides::sum::Of;
 
-use crate::judge::{Exclusion, Judged, Verdict};
+use crate::judge::{Exclusion, FalseSum, Judged, Untested, Verdict};
 
 /// The message types with fields, by name; the rest are skipped by their size.
 const TYPES: &[(u64, &str)] = &[
@@ -74,6 +75,9 @@ pub struct Counts {
     pub headers: u64,
     accepted: u64,
     refused: BTreeMap<u64, u64>,
+    /// Stored values that are sums, in headers that are accepted or refused.
+    sums: u64,
+    false_sums: BTreeMap<FalseSum, u64>,
     outside: BTreeMap<Exclusion, u64>,
     pub panicked: u64,
     pub differing: u64,
@@ -89,12 +93,17 @@ pub struct Counts {
 impl Counts {
     pub fn count(&mut self, judged: &Judged) {
         self.headers += 1;
-        if !matches!(judged.verdict, Verdict::Outside(_) | Verdict::Panicked(_)) {
-            self.beside.count(judged);
+        match judged.verdict {
+            Verdict::FalseSum(_) | Verdict::Outside(_) | Verdict::Panicked(_) => {}
+            _ => {
+                self.beside.count(judged);
+                self.sums += judged.closings.len() as u64;
+            }
         }
         match &judged.verdict {
             Verdict::Accepted(header) => self.count_header(header, &judged.found.forms),
             Verdict::Refused(number) => count(&mut self.refused, *number),
+            Verdict::FalseSum(sum) => count(&mut self.false_sums, *sum),
             Verdict::Outside(why) => count(&mut self.outside, *why),
             Verdict::Panicked(..) => self.panicked += 1,
             Verdict::Differs(..) => self.differing += 1,
@@ -117,10 +126,19 @@ impl Counts {
         }
     }
 
+    pub fn false_sums(&self) -> u64 {
+        self.false_sums.values().sum()
+    }
+
     /// Prints the outcomes of headers that have a name.
     pub fn print(&self, name: &str) {
         println!("{name}accepted by port and mended Rust {}", self.accepted);
         print_refused(&format!("{name}refused by port and mended Rust"), &self.refused);
+        println!("{name}true sums in these {}", self.sums);
+        println!("{name}with a false sum, refused by the port with 28 {}", self.false_sums());
+        for (sum, count) in &self.false_sums {
+            println!("  {}: {count}", sum.text());
+        }
         let outside: u64 = self.outside.values().sum();
         println!("{name}outside the comparison {outside}");
         for (why, count) in &self.outside {
@@ -139,7 +157,9 @@ impl Sum for Counts {
         self.headers_with_blocks += other.headers_with_blocks;
         self.values += other.values;
         self.empty_values += other.empty_values;
+        self.sums += other.sums;
         add_all(&mut self.refused, other.refused);
+        add_all(&mut self.false_sums, other.false_sums);
         add_all(&mut self.outside, other.outside);
         add_all(&mut self.types, other.types);
         add_all(&mut self.forms, other.forms);
@@ -186,6 +206,21 @@ pub fn print_contents(counts: &Counts) {
     );
     for (form, count) in &counts.forms {
         println!("accepted headers with {form} {count}");
+    }
+}
+
+impl FalseSum {
+    pub fn text(self) -> String {
+        let of = match self.of {
+            Of::Block => "a block's",
+            _ => "the header's",
+        };
+        let rust = match self.rust {
+            Untested::Accepts => "accepts the header",
+            Untested::Refuses => "refuses what stands behind it",
+            Untested::TooMany => "reads a 4,097th entry",
+        };
+        format!("{of}, where the mended Rust {rust}")
     }
 }
 

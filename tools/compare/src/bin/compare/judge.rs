@@ -1,17 +1,22 @@
 //! One input: the answers of the port and of both Rusts, and what the comparison says of them.
 //!
 //! The port is compared with the mended Rust. Where no form is found that the published Rust reads
-//! otherwise, the two Rusts must answer alike, so that the port is compared with both.
+//! otherwise, the two Rusts must answer alike, so that the port is compared with both. No Rust tests
+//! a sum: where a stored value is reached that is none, the port must answer 28, and nowhere else.
 
 use sides::answer::{Header, REFUSED};
+use sides::closing::{first_false, reached};
 use sides::input::Input;
 use sides::port::{self, PlainAnswer, Port};
 use sides::rust::{self, Entry, mended, published};
 use sides::scan::{self, Found, Outside};
+use sides::sum::{Closing, Of};
 
 use crate::breakage::Breakage;
 
 const LAYOUT: u8 = 8;
+/// The port's number for a false sum.
+pub const CHECKSUM: u64 = 28;
 
 /// Why an input is outside the comparison.
 #[derive(Clone, Copy, Debug, PartialEq, Eq, PartialOrd, Ord)]
@@ -22,10 +27,26 @@ pub enum Exclusion {
     Elements,
 }
 
+/// A false sum: what it closes, and what the mended Rust, which does not test it, says of the input.
+#[derive(Clone, Copy, Debug, PartialEq, Eq, PartialOrd, Ord)]
+pub struct FalseSum {
+    pub of: Of,
+    pub rust: Untested,
+}
+
+#[derive(Clone, Copy, Debug, PartialEq, Eq, PartialOrd, Ord)]
+pub enum Untested {
+    Accepts,
+    Refuses,
+    TooMany,
+}
+
 pub enum Verdict {
     Accepted(Box<Header>),
     /// With the port's number.
     Refused(u64),
+    /// The port refuses it with 28, as it must.
+    FalseSum(FalseSum),
     Outside(Exclusion),
     /// A Rust panics; with what the sides say.
     Panicked(String),
@@ -35,6 +56,8 @@ pub enum Verdict {
 
 pub struct Judged {
     pub verdict: Verdict,
+    /// The closings that were reached, in their order.
+    pub closings: Vec<Closing>,
     pub found: Found,
     /// The published Rust's answer, where it is not the mended one's.
     pub otherwise: Option<rust::Outcome>,
@@ -77,8 +100,7 @@ impl Judge {
     pub fn judged(&mut self, input: &Input) -> Judged {
         let answer = self.port.answer(input);
         let port = self.broken(input, answer);
-        let widths = 2..=8;
-        if !widths.contains(&input.offset_width) || !widths.contains(&input.length_width) {
+        if !input.has_widths() {
             return unasked(&port);
         }
         against_rust(input, port)
@@ -93,6 +115,7 @@ fn unasked(port: &port::Outcome) -> Judged {
     };
     Judged {
         verdict,
+        closings: Vec::new(),
         found: Found::default(),
         otherwise: None,
     }
@@ -101,18 +124,22 @@ fn unasked(port: &port::Outcome) -> Judged {
 /// What is said of the port's answer for an input whose widths are allowed.
 pub fn against_rust(input: &Input, port: port::Outcome) -> Judged {
     let mended = mended::rust_answer(input);
+    let closings = reached(input, &mended);
     let answers = Answers {
         input,
         port,
         published: published::rust_answer(input).outcome,
         found: scan::header(input, &mended.entries),
+        false_sum: first_false(&closings, &input.file),
+        closings,
         mended: mended.outcome,
         entries: mended.entries,
     };
     answers.judged()
 }
 
-/// All that is said of an input, with the entries that the mended Rust read and what they show.
+/// All that is said of an input, with the entries that the mended Rust read and what they show, and
+/// the closings that it reached and the first that is false.
 struct Answers<'a> {
     input: &'a Input,
     port: port::Outcome,
@@ -120,12 +147,15 @@ struct Answers<'a> {
     mended: rust::Outcome,
     entries: Vec<Entry>,
     found: Found,
+    closings: Vec<Closing>,
+    false_sum: Option<Closing>,
 }
 
 impl Answers<'_> {
     fn judged(self) -> Judged {
         Judged {
             verdict: self.verdict(),
+            closings: self.closings,
             found: self.found,
             otherwise: (self.published != self.mended).then_some(self.published),
         }
@@ -139,43 +169,56 @@ impl Answers<'_> {
         if self.published != self.mended && !self.found.is_mended() {
             return Verdict::Differs(self.text());
         }
-        match self.found.outside {
+        // What stands behind a false sum the port never sees.
+        let seen = self.false_sum.map_or(self.entries.len(), |sum| sum.entries);
+        let before = (seen < self.entries.len())
+            .then(|| scan::header(self.input, &self.entries[..seen]));
+        let found = before.as_ref().unwrap_or(&self.found);
+        match found.outside {
             Some(Outside::TypeLevel) => Verdict::Outside(Exclusion::TypeLevel),
             Some(Outside::Elements) => Verdict::Outside(Exclusion::Elements),
-            None => self.compared(),
+            None => self.compared(&self.entries[..seen], found),
         }
     }
 
-    /// The verdict on the port's answer and the mended Rust's.
-    fn compared(&self) -> Verdict {
-        match (&self.port, &self.mended) {
-            (port::Outcome::Read(ours), rust::Outcome::Read(theirs))
-                if ours.report() == theirs.report() =>
-            {
-                Verdict::Accepted(ours.clone())
-            }
-            (port::Outcome::Refused(number @ (2 | 14 | 22 | 23 | 24)), _) => {
-                if self.deserved(*number) {
+    /// The verdict on the port's answer and the mended Rust's, with what the port has seen.
+    fn compared(&self, seen: &[Entry], found: &Found) -> Verdict {
+        match (&self.port, &self.mended, self.false_sum) {
+            (port::Outcome::Refused(number @ (2 | 14 | 22 | 23 | 24)), ..) => {
+                if self.deserved(*number, seen, found) {
                     return Verdict::Outside(Exclusion::Number(*number));
                 }
                 Verdict::Differs(self.text())
             }
-            (port::Outcome::Refused(number), rust::Outcome::Refused) => Verdict::Refused(*number),
+            (port::Outcome::Refused(CHECKSUM), rust, Some(sum)) => Verdict::FalseSum(FalseSum {
+                of: sum.of,
+                rust: untested(rust),
+            }),
+            (port::Outcome::Refused(CHECKSUM), ..) | (.., Some(_)) => {
+                Verdict::Differs(self.text())
+            }
+            (port::Outcome::Read(ours), rust::Outcome::Read(theirs), None)
+                if ours.report() == theirs.report() =>
+            {
+                Verdict::Accepted(ours.clone())
+            }
+            (port::Outcome::Refused(number), rust::Outcome::Refused, None) => {
+                Verdict::Refused(*number)
+            }
             _ => Verdict::Differs(self.text()),
         }
     }
 
     /// Whether a number that ends the comparison is borne out by what the Rust read up to there.
-    fn deserved(&self, number: u64) -> bool {
+    fn deserved(&self, number: u64, seen: &[Entry], found: &Found) -> bool {
         let file = &self.input.file;
         let chunked = |body: usize| file.get(body..body + 2) == Some(&[3, 2]);
         match number {
-            14 => self
-                .entries
+            14 => seen
                 .iter()
                 .any(|e| e.kind == LAYOUT && chunked(e.body)),
-            22 => self.found.type_too_deep,
-            23 => matches!(self.mended, rust::Outcome::TooMany),
+            22 => found.type_too_deep,
+            23 => self.false_sum.is_none() && matches!(self.mended, rust::Outcome::TooMany),
             2 => file.len() > 1 << 31,
             _ => false,
         }
@@ -188,8 +231,23 @@ impl Answers<'_> {
         if self.published != self.mended {
             text += &published_text(&self.published);
         }
-        text
+        text + &sums_text(&self.closings, &self.input.file)
     }
+}
+
+fn untested(outcome: &rust::Outcome) -> Untested {
+    match outcome {
+        rust::Outcome::Read(_) => Untested::Accepts,
+        rust::Outcome::TooMany => Untested::TooMany,
+        _ => Untested::Refuses,
+    }
+}
+
+/// The closings up to the first false one, which is the last that matters.
+pub fn sums_text(closings: &[Closing], file: &[u8]) -> String {
+    let first = closings.iter().position(|closing| !closing.holds(file));
+    let tested = first.map_or(closings, |first| &closings[..=first]);
+    tested.iter().map(|closing| closing.text(file)).collect()
 }
 
 /// What the published Rust says, under its name.

@@ -1,15 +1,16 @@
 //! One plain file: the superblock and the root header of both sides, and what the comparison says
 //! of them.
 
-use std::borrow::Cow;
-
 use sides::answer::SuperBlock;
-use sides::plain::{VERSION, end, version};
+use sides::closing::{self, Summed};
+use sides::plain::{VERSION, as_version_2, end, version};
 use sides::port::Written;
 use sides::rust::mended;
 use sides::rust::published::{rust_answer, rust_parses, rust_super_block};
 
-use crate::judge::{Judge, Judged, Verdict, against_rust, port_text, rust_text};
+use crate::judge::{
+    CHECKSUM, Judge, Judged, Verdict, against_rust, port_text, rust_text, sums_text,
+};
 
 const LARGEST_FILE: usize = 1 << 31;
 
@@ -28,6 +29,9 @@ pub enum PlainVerdict {
     Read(u8, Judged),
     /// Both refuse the superblock, the port with this number.
     Refused(u64),
+    /// The Rust reads the superblock, of this version, and its sum is false: the port refuses it with
+    /// 28, as it must.
+    FalseSum(u8),
     Outside(PlainExclusion),
     /// With what both say.
     Differs(String),
@@ -74,7 +78,7 @@ impl Judge {
             return differ(&block_text(ours), "it reads version 3\n");
         }
         match (ours, rust_super_block(&as_version_2(file))) {
-            (Ok(block), Some(theirs)) if *block == theirs && due(file, block) => {
+            (Ok(block), Some(theirs)) if *block == theirs && due(file) => {
                 let input = block.input(file);
                 let root = self.broken(&input, answer.root.outcome(file));
                 PlainVerdict::Read(file[VERSION], against_rust(&input, root))
@@ -109,19 +113,14 @@ fn unlike_by_hand(root: &Written, by_hand: &Written) -> PlainVerdict {
     )
 }
 
-/// A file as the Rust is given it, since it does not read version 3: with version 2 in its place.
-/// The other fields are the same.
-pub fn as_version_2(file: &[u8]) -> Cow<'_, [u8]> {
-    let mut given = Cow::Borrowed(file);
-    if version(file) == Some(3) {
-        given.to_mut()[VERSION] = 2;
-    }
-    given
+/// Whether the port has to read a superblock that the Rust reads.
+fn due(file: &[u8]) -> bool {
+    closing::super_block(file).is_some_and(|closing| closing.holds(file))
 }
 
-/// Whether the port has to read a superblock that the Rust reads.
-fn due(file: &[u8], block: &SuperBlock) -> bool {
-    matches!(version(file), Some(2 | 3)) && file.len() >= end(block.size_of_offsets)
+/// Whether the Rust reads a superblock whose sum is false.
+fn has_false_sum(file: &[u8]) -> bool {
+    closing::super_block(file).is_some_and(|closing| !closing.holds(file))
 }
 
 /// The verdict on a superblock that the port refuses.
@@ -130,8 +129,10 @@ fn refused(file: &[u8], number: u64, theirs: Option<SuperBlock>) -> PlainVerdict
     match (number, theirs) {
         (2, _) if file.len() > LARGEST_FILE => PlainVerdict::Outside(PlainExclusion::FileSize),
         (2, theirs) => blocks_differ(&Err(number), theirs),
+        (CHECKSUM, _) if has_false_sum(file) => PlainVerdict::FalseSum(file[VERSION]),
+        (CHECKSUM, theirs) => blocks_differ(&Err(number), theirs),
         (26, Some(_)) if early => PlainVerdict::Outside(PlainExclusion::EarlyVersion),
-        (3, Some(block)) if !early && !due(file, &block) => {
+        (3, Some(block)) if !early && file.len() < end(block.size_of_offsets) => {
             PlainVerdict::Outside(PlainExclusion::NoChecksum)
         }
         (_, None) => PlainVerdict::Refused(number),
@@ -173,6 +174,7 @@ pub fn plain_text(judge: &mut Judge, file: &[u8]) -> String {
         let given = as_version_2(file);
         text += &format!("Rust, given version 2:\n{}", rust_plain_text(&given, file));
     }
+    text += &sums_text(&file.to_vec().closings(), file);
     text + &format!("`parse` of the Rust {parse} the file\n")
 }
 

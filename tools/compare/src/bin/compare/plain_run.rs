@@ -21,6 +21,8 @@ struct Plain {
     /// Superblocks that port and Rust read, by version.
     read: BTreeMap<u8, u64>,
     refused: BTreeMap<u64, u64>,
+    /// Superblocks with a false sum, by version.
+    false_sums: BTreeMap<u8, u64>,
     outside: BTreeMap<PlainExclusion, u64>,
     differing: u64,
     /// The root headers behind superblocks that port and Rust read.
@@ -38,6 +40,7 @@ impl Plain {
                 self.roots.count(root);
             }
             PlainVerdict::Refused(number) => count(&mut self.refused, *number),
+            PlainVerdict::FalseSum(version) => count(&mut self.false_sums, *version),
             PlainVerdict::Outside(why) => count(&mut self.outside, *why),
             PlainVerdict::Differs(..) => self.differing += 1,
         }
@@ -57,19 +60,12 @@ impl Plain {
         );
         beside.print("root headers of real files as they are ");
         print_speed(self.files, "files", start);
-        println!(
-            "superblocks read by port and Rust {}",
-            self.read.values().sum::<u64>()
-        );
-        for (version, count) in &self.read {
-            let given = if *version == 3 {
-                ", the Rust being given version 2"
-            } else {
-                ""
-            };
-            println!("  of version {version}{given}: {count}");
-        }
+        print_versions("superblocks read by port and Rust", &self.read);
         print_refused("superblocks refused by port and Rust", &self.refused);
+        print_versions(
+            "superblocks with a false sum, which the Rust reads and the port refuses with 28",
+            &self.false_sums,
+        );
         let outside: u64 = self.outside.values().sum();
         println!("superblocks outside the comparison {outside}");
         for (why, count) in &self.outside {
@@ -87,6 +83,7 @@ impl Sum for Plain {
         self.differing += other.differing;
         add_all(&mut self.read, other.read);
         add_all(&mut self.refused, other.refused);
+        add_all(&mut self.false_sums, other.false_sums);
         add_all(&mut self.outside, other.outside);
         self.roots.add(other.roots);
         self.shown.extend(other.shown);
@@ -120,6 +117,19 @@ pub fn plain(arguments: &Arguments, count: u64) -> io::Result<bool> {
     Ok(plain.disagreements() == 0 && plain.roots.panicked == 0)
 }
 
+/// How many superblocks are of each version.
+fn print_versions(name: &str, versions: &BTreeMap<u8, u64>) {
+    println!("{name} {}", versions.values().sum::<u64>());
+    for (version, count) in versions {
+        let given = if *version == 3 {
+            ", the Rust being given version 2"
+        } else {
+            ""
+        };
+        println!("  of version {version}{given}: {count}");
+    }
+}
+
 /// Shrinks a file that disagrees or panics, and prints it with what each side says.
 fn print_smallest(judge: &mut Judge, file: &[u8]) {
     let panics = judge.plain_verdict(file).panicked();
@@ -141,6 +151,7 @@ fn print_verdict(verdict: &PlainVerdict) {
         PlainVerdict::Refused(number) => {
             println!("port and Rust:\nrefused, by the port with {number}");
         }
+        PlainVerdict::FalseSum(_) => println!("{}", summary(verdict)),
         PlainVerdict::Outside(why) => println!("outside the comparison: {}", why.text()),
         PlainVerdict::Differs(text) => print!("{text}"),
     }
@@ -163,6 +174,7 @@ fn summary(verdict: &PlainVerdict) -> String {
         PlainVerdict::Refused(number) => {
             format!("port and Rust refuse the superblock, the port with {number}")
         }
+        PlainVerdict::FalseSum(_) => "the superblock's sum is false, and the port answers 28".into(),
         PlainVerdict::Outside(why) => format!("outside the comparison: {}", why.text()),
         PlainVerdict::Differs(_) => "they disagree".into(),
     }
@@ -172,6 +184,9 @@ fn root_summary(root: &Verdict) -> String {
     match root {
         Verdict::Accepted(_) => "port and mended Rust accept".into(),
         Verdict::Refused(number) => format!("port and mended Rust refuse the root header, the port with {number}"),
+        Verdict::FalseSum(sum) => {
+            format!("the port answers 28 for a false sum: {}", sum.text())
+        }
         Verdict::Outside(why) => {
             format!("the root header is outside the comparison: {}", why.text())
         }

@@ -11,8 +11,8 @@ use sides::real;
 use sides::rust::STACK;
 
 use crate::arguments::Arguments;
-use crate::counts::{Beside, Counts, Sum, print_contents};
-use crate::judge::{Judge, Judged, Verdict, published_text, text};
+use crate::counts::{Counts, Sum, print_contents};
+use crate::judge::{Judge, Judged, Verdict, published_text, sums_text, text};
 use crate::plain_run;
 use crate::shrink::shrink;
 
@@ -75,6 +75,7 @@ fn headers(arguments: &Arguments, count: u64) -> io::Result<bool> {
         headers.count(input, &judge.judged(input));
     }
     let beside = headers.counts.beside.clone();
+    let false_sums = headers.counts.false_sums();
     for input in &large::inputs() {
         headers.count(input, &judge.judged(input));
     }
@@ -87,7 +88,14 @@ fn headers(arguments: &Arguments, count: u64) -> io::Result<bool> {
             });
         },
     ));
-    print_counts(&headers.counts, real.len(), &beside, start);
+    println!(
+        "inputs {}, {} of them headers of real files as they are",
+        headers.counts.headers,
+        real.len()
+    );
+    beside.print("headers of real files as they are ");
+    println!("headers of real files as they are with a false sum {false_sums}");
+    print_counts(&headers.counts, start);
     headers.shown.sort_by_key(|input| input.file.len());
     for input in headers.shown.iter().take(arguments.shown) {
         print_smallest(&mut judge, input);
@@ -132,12 +140,7 @@ pub fn over_threads<T: Sum>(
     counts
 }
 
-fn print_counts(counts: &Counts, real: usize, beside: &Beside, start: Instant) {
-    println!(
-        "inputs {}, {real} of them headers of real files as they are",
-        counts.headers
-    );
-    beside.print("headers of real files as they are ");
+fn print_counts(counts: &Counts, start: Instant) {
     print_speed(counts.headers, "inputs", start);
     counts.print("");
     println!("panics of the Rust {}", counts.panicked);
@@ -169,6 +172,7 @@ pub fn print_answers(judged: &Judged) {
         Verdict::Differs(text) | Verdict::Panicked(text) => return print!("{text}"),
         Verdict::Accepted(header) => print!("port and mended Rust:\n{}", text(&header.report())),
         Verdict::Refused(number) => println!("port and mended Rust:\nrefused, by the port with {number}"),
+        Verdict::FalseSum(sum) => println!("port:\nrefused 28, a false sum: {}", sum.text()),
         Verdict::Outside(why) => println!("outside the comparison: {}", why.text()),
     }
     if let Some(outcome) = &judged.otherwise {
@@ -185,6 +189,9 @@ pub fn one(arguments: &Arguments) -> io::Result<bool> {
     };
     let judged = Judge::new(arguments.breakage).judged(&input);
     print_answers(&judged);
+    if !matches!(judged.verdict, Verdict::Differs(_) | Verdict::Panicked(_)) {
+        print!("{}", sums_text(&judged.closings, &input.file));
+    }
     Ok(!matches!(
         judged.verdict,
         Verdict::Differs(_) | Verdict::Panicked(_)

@@ -3,33 +3,48 @@
 use std::ops::Range;
 
 use sides::answer::SuperBlock;
+use sides::closing::{is_true, make_true};
 use sides::input::{Input, get};
-use sides::plain::{address, version};
-use sides::rust::Entry;
-use sides::rust::mended::{rust_answer, rust_super_block};
-
-use crate::plain_judge::as_version_2;
+use sides::plain::{address, as_version_2, version};
+use sides::rust::mended::{rust_super_block, rust_walk};
+use sides::rust::{CONTINUATION, Entry};
 
 /// Bytes that are tried at most, and what a try costs beside its bytes.
 const WORK: usize = 200_000_000;
 const COST: usize = 4000;
-const CONTINUATION: u8 = 16;
 const LAYOUT: u8 = 8;
 
 struct Shrink<'a> {
     best: Input,
     /// The numbers of the best input that change where bytes are dropped.
     counts: Vec<Count>,
+    /// Puts right what follows from the other bytes.
+    restore: &'a dyn Fn(&mut Input),
     shows: &'a mut dyn FnMut(&Input) -> bool,
     /// What may still be tried.
     work: usize,
 }
 
-/// A smaller input that still shows what `shows` looks for.
+/// A smaller input that still shows what `shows` looks for. Sums that are true stay true.
 pub fn shrink(input: &Input, shows: &mut dyn FnMut(&Input) -> bool) -> Input {
+    let sums = is_true(&mut input.clone());
+    let restore = |input: &mut Input| {
+        if sums {
+            make_true(input);
+        }
+    };
+    smallest(input.clone(), &restore, shows)
+}
+
+fn smallest(
+    input: Input,
+    restore: &dyn Fn(&mut Input),
+    shows: &mut dyn FnMut(&Input) -> bool,
+) -> Input {
     let mut shrink = Shrink {
-        best: input.clone(),
-        counts: counts(input),
+        counts: counts(&input),
+        best: input,
+        restore,
         shows,
         work: WORK,
     };
@@ -40,28 +55,32 @@ pub fn shrink(input: &Input, shows: &mut dyn FnMut(&Input) -> bool) -> Input {
 /// A smaller plain file that still shows what `shows` looks for. Where the Rust reads its
 /// superblock, end-of-file address and root follow the bytes that are dropped.
 pub fn shrink_plain(file: &[u8], shows: &mut dyn FnMut(&[u8]) -> bool) -> Vec<u8> {
+    let sums = is_true(&mut file.to_vec());
+    let restore = |input: &mut Input| {
+        set_values(input);
+        if sums {
+            make_true(&mut input.file);
+        }
+    };
     let block = rust_super_block(&as_version_2(file)).unwrap_or(SuperBlock {
         // Nothing of the file counts its bytes.
         root_group_object_header_address: u64::MAX,
         ..SuperBlock::default()
     });
-    let smallest = shrink(&block.input(file), &mut |input| shows(&with_values(input)));
-    with_values(&smallest)
+    smallest(block.input(file), &restore, &mut |input| shows(&input.file)).file
 }
 
-/// The file of an input, with end-of-file address and position in a superblock of version 2 or 3.
-fn with_values(input: &Input) -> Vec<u8> {
-    let mut file = input.file.clone();
+/// Puts end-of-file address and position into a superblock of version 2 or 3.
+fn set_values(input: &mut Input) {
     let width = usize::from(input.offset_width);
-    if matches!(version(&file), Some(2 | 3)) && width > 0 {
+    if matches!(version(&input.file), Some(2 | 3)) && width > 0 {
         for (number, value) in [(2, input.end_of_file), (3, input.position)] {
             let at = address(number, width as u64);
-            if let Some(field) = file.get_mut(at..at + width) {
+            if let Some(field) = input.file.get_mut(at..at + width) {
                 field.copy_from_slice(&value.to_le_bytes()[..width]);
             }
         }
     }
-    file
 }
 
 impl Shrink<'_> {
@@ -75,9 +94,13 @@ impl Shrink<'_> {
         cut || entries || dropped || zeroed || plain
     }
 
-    /// Takes an input if it still shows it.
-    fn take(&mut self, input: Input) -> bool {
-        if self.work == 0 || input == self.best {
+    /// Takes an input, with what follows from its bytes put right, if it still shows it.
+    fn take(&mut self, mut input: Input) -> bool {
+        if self.work == 0 {
+            return false;
+        }
+        (self.restore)(&mut input);
+        if input == self.best {
             return false;
         }
         self.work = self.work.saturating_sub(input.file.len() + COST);
@@ -236,14 +259,14 @@ impl Count {
 
 /// The numbers that count bytes, as far as the mended Rust reads.
 fn counts(input: &Input) -> Vec<Count> {
-    let Some(flags) = input.file.get((input.position as usize).saturating_add(5)) else {
+    let Some(field) = input.chunk_size() else {
         return Vec::new();
     };
-    let start = input.position as usize + if flags & 32 == 0 { 6 } else { 22 };
+    let flags = input.file[input.position as usize + 5];
     let prefix = if flags & 4 == 0 { 4 } else { 6 };
     let mut counts = Vec::new();
-    counts.extend(size_at(input, start, 1 << (flags & 3)));
-    for entry in rust_answer(input).entries {
+    counts.extend(input.chunk().map(|chunk| Count::Size(field, chunk)));
+    for entry in rust_walk(input).entries {
         let size = entry.body - prefix + 1;
         let length = get(&input.file[size..size + 2]) as usize;
         counts.push(Count::Entry(
@@ -253,13 +276,6 @@ fn counts(input: &Input) -> Vec<Count> {
         counts.extend(pointers(input, entry));
     }
     counts
-}
-
-/// A size that counts the bytes behind it.
-fn size_at(input: &Input, at: usize, width: usize) -> Option<Count> {
-    let size = get(input.file.get(at..at + width)?) as usize;
-    let first = at + width;
-    Some(Count::Size(at..first, first..first.saturating_add(size)))
 }
 
 /// What a continuation or a layout points with.
