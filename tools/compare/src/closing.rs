@@ -52,7 +52,10 @@ impl Summed for Vec<u8> {
 
 /// The first closing whose stored value is not the sum.
 pub fn first_false(closings: &[Closing], file: &[u8]) -> Option<Closing> {
-    closings.iter().copied().find(|closing| !closing.holds(file))
+    closings
+        .iter()
+        .copied()
+        .find(|closing| !closing.holds(file))
 }
 
 /// Whether every stored value is true that a reading reaches.

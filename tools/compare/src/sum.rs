@@ -49,7 +49,8 @@ impl Closing {
 
     /// What it says, for the eye.
     pub fn text(&self, file: &[u8]) -> String {
-        let number = |value: Option<u32>| value.map_or("-".into(), |value| format!("{value:#010x}"));
+        let number =
+            |value: Option<u32>| value.map_or("-".into(), |value| format!("{value:#010x}"));
         format!(
             "the {} sum of bytes {} to {}: stored {}, {}\n",
             self.of.text(),
@@ -119,10 +120,14 @@ impl Wrong {
             Wrong::Zero => Some(0),
         }
     }
+
+    pub fn is_stored(self, file: &[u8], closing: &Closing) -> bool {
+        closing.stored(file) == self.sum(file, closing)
+    }
 }
 
 /// The bytes of a step: three words.
-const STEP: usize = 12;
+pub const STEP: usize = 12;
 
 /// Adds the bytes in steps of three words; the last 1 to 12 are filled with zeros.
 pub const fn lookup3(bytes: &[u8]) -> u32 {

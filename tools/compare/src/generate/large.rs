@@ -32,7 +32,11 @@ fn made() -> Vec<Input> {
     inputs.push(one_message(0, 65_535, &[7; 65_535]));
     inputs.push(one_message(4, 4, &sized(65_531, 4)));
     inputs.push(one_message(4, 4, &sized(900_000, 4)));
-    inputs.push(one_message(8, 4, &[&[3, 0], &sized(65_535, 2)[..]].concat()));
+    inputs.push(one_message(
+        8,
+        4,
+        &[&[3, 0], &sized(65_535, 2)[..]].concat(),
+    ));
     for name in [65_527, 65_528, 65_529] {
         inputs.push(one_message(11, 24, &named_filter(name)));
     }

@@ -7,6 +7,7 @@ use sides::port::{Outcome, PlainAnswer};
 use sides::rust::{self, published};
 
 use crate::plain_breakage::PLAIN;
+use crate::sum_breakage::SUMS;
 
 pub struct Breakage {
     pub name: &'static str,
@@ -92,7 +93,7 @@ pub const HEADER: &[Breakage] = &[
 ];
 
 pub fn named(name: &str) -> Result<&'static Breakage, String> {
-    let all = || HEADER.iter().chain(PLAIN);
+    let all = || HEADER.iter().chain(SUMS).chain(PLAIN);
     let names = || all().map(|b| b.name).collect::<Vec<_>>().join(", ");
     let found = all().find(|breakage| breakage.name == name);
     found.ok_or_else(|| format!("{name} is none of {}", names()))
@@ -144,8 +145,8 @@ fn refuse(outcome: Outcome, which: fn(&Header) -> bool) -> Outcome {
     }
 }
 
-/// Refuses accepted headers with a number that is no part of the comparison.
-fn refuse_with(outcome: Outcome, number: u64) -> Outcome {
+/// Refuses accepted headers with a number.
+pub fn refuse_with(outcome: Outcome, number: u64) -> Outcome {
     match outcome {
         Outcome::Read(_) => Outcome::Refused(number),
         refused => refused,

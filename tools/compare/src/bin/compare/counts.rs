@@ -4,7 +4,7 @@ use std::collections::{BTreeMap, BTreeSet};
 
 use sides::answer::Header;
 use sides::scan::Form;
-use sides::sum::Of;
+use sides::sum::{Closing, Of};
 
 use crate::judge::{Exclusion, FalseSum, Judged, Untested, Verdict};
 
@@ -86,6 +86,10 @@ pub struct Counts {
     types: BTreeMap<u64, u64>,
     forms: BTreeMap<String, u64>,
     headers_with_blocks: u64,
+    /// Headers with a body that runs over the stored value.
+    overrun: u64,
+    /// Headers with a block whose stored value is among the bytes of the header's sum.
+    covered: u64,
     values: u64,
     empty_values: u64,
 }
@@ -93,15 +97,19 @@ pub struct Counts {
 impl Counts {
     pub fn count(&mut self, judged: &Judged) {
         self.headers += 1;
-        match judged.verdict {
-            Verdict::FalseSum(_) | Verdict::Outside(_) | Verdict::Panicked(_) => {}
-            _ => {
-                self.beside.count(judged);
-                self.sums += judged.closings.len() as u64;
-            }
+        let alike = matches!(judged.verdict, Verdict::Accepted(_) | Verdict::Refused(_));
+        if alike {
+            self.sums += judged.closings.len() as u64;
+        }
+        if alike || matches!(judged.verdict, Verdict::Differs(_)) {
+            self.beside.count(judged);
         }
         match &judged.verdict {
-            Verdict::Accepted(header) => self.count_header(header, &judged.found.forms),
+            Verdict::Accepted(header) => {
+                self.count_header(header, &judged.found.forms);
+                self.overrun += u64::from(is_overrun(header, &judged.closings));
+                self.covered += u64::from(is_covered(&judged.closings));
+            }
             Verdict::Refused(number) => count(&mut self.refused, *number),
             Verdict::FalseSum(sum) => count(&mut self.false_sums, *sum),
             Verdict::Outside(why) => count(&mut self.outside, *why),
@@ -133,9 +141,15 @@ impl Counts {
     /// Prints the outcomes of headers that have a name.
     pub fn print(&self, name: &str) {
         println!("{name}accepted by port and mended Rust {}", self.accepted);
-        print_refused(&format!("{name}refused by port and mended Rust"), &self.refused);
+        print_refused(
+            &format!("{name}refused by port and mended Rust"),
+            &self.refused,
+        );
         println!("{name}true sums in these {}", self.sums);
-        println!("{name}with a false sum, refused by the port with 28 {}", self.false_sums());
+        println!(
+            "{name}with a false sum, refused by the port with 28 {}",
+            self.false_sums()
+        );
         for (sum, count) in &self.false_sums {
             println!("  {}: {count}", sum.text());
         }
@@ -155,6 +169,8 @@ impl Sum for Counts {
         self.panicked += other.panicked;
         self.differing += other.differing;
         self.headers_with_blocks += other.headers_with_blocks;
+        self.overrun += other.overrun;
+        self.covered += other.covered;
         self.values += other.values;
         self.empty_values += other.empty_values;
         self.sums += other.sums;
@@ -165,6 +181,21 @@ impl Sum for Counts {
         add_all(&mut self.forms, other.forms);
         self.beside.add(other.beside);
     }
+}
+
+/// Whether a body of an accepted header runs over its stored sum.
+pub fn is_overrun(header: &Header, closings: &[Closing]) -> bool {
+    let last = closings.last();
+    last.is_some_and(|closing| header.next > closing.end as u64 + 4)
+}
+
+/// Whether a block's stored sum is among the bytes of an accepted header's.
+pub fn is_covered(closings: &[Closing]) -> bool {
+    let Some((header, blocks)) = closings.split_last() else {
+        return false;
+    };
+    let mut ends = blocks.iter().map(|block| block.end);
+    ends.any(|end| (header.from..header.end).contains(&end))
 }
 
 pub fn count<K: Ord>(counts: &mut BTreeMap<K, u64>, key: K) {
@@ -203,6 +234,14 @@ pub fn print_contents(counts: &Counts) {
     println!(
         "accepted headers with blocks {}",
         counts.headers_with_blocks
+    );
+    println!(
+        "accepted headers with a body over the stored sum {}",
+        counts.overrun
+    );
+    println!(
+        "accepted headers with a block's stored sum among their own bytes {}",
+        counts.covered
     );
     for (form, count) in &counts.forms {
         println!("accepted headers with {form} {count}");

@@ -4,11 +4,15 @@ use sides::answer::{Header, Row};
 use sides::input::{Input, get, padding};
 use sides::rust::Entry;
 use sides::scan::Form;
+use sides::sum::{Closing, STEP};
 
-/// The groups of padded forms.
+use crate::counts::{is_covered, is_overrun};
+
+/// The groups of padded forms, and of sums.
 const MEMBER_1: &str = "version-1-member";
 const MEMBER_3: &str = "version-3-member";
 const NAME_1: &str = "version-1-name";
+const SUM: &str = "sum";
 
 /// A group, which names the stored input, and what is shown in it.
 #[derive(Clone, Debug, PartialEq, Eq, PartialOrd, Ord, Hash)]
@@ -18,9 +22,9 @@ pub struct Feature {
 }
 
 impl Feature {
-    /// Whether a padded form is what is shown.
-    pub fn is_form(&self) -> bool {
-        [MEMBER_1, MEMBER_3, NAME_1].contains(&self.group.as_str())
+    /// Whether a padded form or a sum is what is shown.
+    pub fn is_form_or_sum(&self) -> bool {
+        [MEMBER_1, MEMBER_3, NAME_1, SUM].contains(&self.group.as_str())
     }
 }
 
@@ -214,6 +218,23 @@ fn of_attribute(input: &Input, row: &Row) -> Vec<String> {
     ];
     details.extend(of_type(input, at));
     details
+}
+
+/// What the sums of an accepted input show.
+pub fn of_sums(header: &Header, closings: &[Closing]) -> Vec<Feature> {
+    let summed = |closing: &Closing| closing.end - closing.from;
+    let mut details: Vec<String> = closings
+        .iter()
+        .map(|closing| format!("{:?} rest {}", closing.of, summed(closing) % STEP))
+        .collect();
+    if is_overrun(header, closings) {
+        details.push("a body over it".into());
+    }
+    if is_covered(closings) {
+        details.push("among other bytes".into());
+    }
+    let named = details.into_iter().map(|detail| feature(SUM, detail));
+    named.collect()
 }
 
 /// What the padded forms of an input show, beside how they are answered.

@@ -171,8 +171,8 @@ impl Answers<'_> {
         }
         // What stands behind a false sum the port never sees.
         let seen = self.false_sum.map_or(self.entries.len(), |sum| sum.entries);
-        let before = (seen < self.entries.len())
-            .then(|| scan::header(self.input, &self.entries[..seen]));
+        let before =
+            (seen < self.entries.len()).then(|| scan::header(self.input, &self.entries[..seen]));
         let found = before.as_ref().unwrap_or(&self.found);
         match found.outside {
             Some(Outside::TypeLevel) => Verdict::Outside(Exclusion::TypeLevel),
@@ -194,9 +194,7 @@ impl Answers<'_> {
                 of: sum.of,
                 rust: untested(rust),
             }),
-            (port::Outcome::Refused(CHECKSUM), ..) | (.., Some(_)) => {
-                Verdict::Differs(self.text())
-            }
+            (port::Outcome::Refused(CHECKSUM), ..) | (.., Some(_)) => Verdict::Differs(self.text()),
             (port::Outcome::Read(ours), rust::Outcome::Read(theirs), None)
                 if ours.report() == theirs.report() =>
             {
@@ -214,9 +212,7 @@ impl Answers<'_> {
         let file = &self.input.file;
         let chunked = |body: usize| file.get(body..body + 2) == Some(&[3, 2]);
         match number {
-            14 => seen
-                .iter()
-                .any(|e| e.kind == LAYOUT && chunked(e.body)),
+            14 => seen.iter().any(|e| e.kind == LAYOUT && chunked(e.body)),
             22 => found.type_too_deep,
             23 => self.false_sum.is_none() && matches!(self.mended, rust::Outcome::TooMany),
             2 => file.len() > 1 << 31,

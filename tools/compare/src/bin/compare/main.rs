@@ -13,6 +13,7 @@ mod run;
 mod self_test;
 mod shrink;
 mod store;
+mod sum_breakage;
 
 use std::process::ExitCode;
 

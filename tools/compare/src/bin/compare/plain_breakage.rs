@@ -2,11 +2,14 @@
 //! operation wrote.
 
 use sides::answer::SuperBlock;
-use sides::plain::version;
+use sides::closing::super_block;
+use sides::plain::{as_version_2, version};
 use sides::port::PlainAnswer;
 use sides::rust::published::rust_super_block;
+use sides::sum::{Closing, Wrong};
 
 use crate::breakage::{Breakage, Change};
+use crate::judge::CHECKSUM;
 
 type Plain = fn(&[u8], &mut PlainAnswer);
 
@@ -54,6 +57,34 @@ pub const PLAIN: &[Breakage] = &[
     breakage("base-read", |_, a| accept(a, 27)),
     breakage("early-version-as-the-rust", |f, a| as_rust(f, a, 26)),
     breakage("no-checksum-as-the-rust", |f, a| as_rust(f, a, 3)),
+    breakage("superblock-sum-untested", |f, a| pass(f, a, |_, _| true)),
+    breakage("superblock-sum-untested-in-version-3", |f, a| {
+        pass(f, a, |_, file| version(file) == Some(3))
+    }),
+    breakage("superblock-sum-after-the-signature", |f, a| {
+        pass(f, a, |c, f| Wrong::AfterSignature.is_stored(f, c))
+    }),
+    breakage("superblock-sum-with-the-stored-value", |f, a| {
+        pass(f, a, |c, f| Wrong::WithStored.is_stored(f, c))
+    }),
+    breakage("superblock-sum-without-the-last-byte", |f, a| {
+        pass(f, a, |c, f| Wrong::OneShort.is_stored(f, c))
+    }),
+    breakage("superblock-sum-reversed", |f, a| {
+        pass(f, a, |c, f| Wrong::Reversed.is_stored(f, c))
+    }),
+    breakage("superblock-sum-of-zero", |f, a| {
+        pass(f, a, |c, f| Wrong::Zero.is_stored(f, c))
+    }),
+    breakage("28-for-read", |_, a| refuse(a, CHECKSUM)),
+    breakage("28-for-refused-superblock", |_, a| {
+        a.super_block = a.super_block.clone().map_err(|_| CHECKSUM)
+    }),
+    breakage("3-for-28-of-superblock", |_, a| {
+        if a.super_block == Err(CHECKSUM) {
+            a.super_block = Err(3);
+        }
+    }),
     breakage("root-number", |_, a| a.root.object.refused ^= 1),
     breakage("root-next", |_, a| a.root.object.next += 1),
     breakage("root-data", |_, a| a.root.object.data_length += 1),
@@ -86,6 +117,14 @@ fn accept(answer: &mut PlainAnswer, number: u64) {
 fn as_rust(file: &[u8], answer: &mut PlainAnswer, number: u64) {
     if answer.super_block == Err(number) {
         answer.super_block = rust_super_block(file).ok_or(number);
+    }
+}
+
+/// Lets some false sums of superblocks pass.
+fn pass(file: &[u8], answer: &mut PlainAnswer, passes: fn(&Closing, &[u8]) -> bool) {
+    let passed = |closing: Closing| passes(&closing, file);
+    if answer.super_block == Err(CHECKSUM) && super_block(file).is_some_and(passed) {
+        answer.super_block = rust_super_block(&as_version_2(file)).ok_or(CHECKSUM);
     }
 }
 

@@ -174,7 +174,9 @@ fn summary(verdict: &PlainVerdict) -> String {
         PlainVerdict::Refused(number) => {
             format!("port and Rust refuse the superblock, the port with {number}")
         }
-        PlainVerdict::FalseSum(_) => "the superblock's sum is false, and the port answers 28".into(),
+        PlainVerdict::FalseSum(_) => {
+            "the superblock's sum is false, and the port answers 28".into()
+        }
         PlainVerdict::Outside(why) => format!("outside the comparison: {}", why.text()),
         PlainVerdict::Differs(_) => "they disagree".into(),
     }
@@ -183,7 +185,9 @@ fn summary(verdict: &PlainVerdict) -> String {
 fn root_summary(root: &Verdict) -> String {
     match root {
         Verdict::Accepted(_) => "port and mended Rust accept".into(),
-        Verdict::Refused(number) => format!("port and mended Rust refuse the root header, the port with {number}"),
+        Verdict::Refused(number) => {
+            format!("port and mended Rust refuse the root header, the port with {number}")
+        }
         Verdict::FalseSum(sum) => {
             format!("the port answers 28 for a false sum: {}", sum.text())
         }

@@ -171,7 +171,9 @@ pub fn print_answers(judged: &Judged) {
     match &judged.verdict {
         Verdict::Differs(text) | Verdict::Panicked(text) => return print!("{text}"),
         Verdict::Accepted(header) => print!("port and mended Rust:\n{}", text(&header.report())),
-        Verdict::Refused(number) => println!("port and mended Rust:\nrefused, by the port with {number}"),
+        Verdict::Refused(number) => {
+            println!("port and mended Rust:\nrefused, by the port with {number}")
+        }
         Verdict::FalseSum(sum) => println!("port:\nrefused 28, a false sum: {}", sum.text()),
         Verdict::Outside(why) => println!("outside the comparison: {}", why.text()),
     }

@@ -9,6 +9,7 @@ use crate::breakage::{Breakage, HEADER};
 use crate::judge::{Judge, Verdict};
 use crate::plain_breakage::PLAIN;
 use crate::shrink::{shrink, shrink_plain};
+use crate::sum_breakage::SUMS;
 
 /// Inputs among which a breakage must show.
 const COUNT: u64 = 200_000;
@@ -28,7 +29,7 @@ pub fn self_test(arguments: &Arguments) -> bool {
     let most = arguments.count.unwrap_or(COUNT);
     println!("seed {}, at most {most} inputs for each", arguments.seed);
     let mut passed = true;
-    for breakage in HEADER {
+    for breakage in HEADER.iter().chain(SUMS) {
         passed &= report(
             breakage,
             "input",

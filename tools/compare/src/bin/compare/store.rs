@@ -13,7 +13,7 @@ use sides::rust::{self, mended};
 use sides::scan;
 
 use crate::arguments::Arguments;
-use crate::features::{BY_FORMS, Feature, of_forms, of_header, of_refusal};
+use crate::features::{BY_FORMS, Feature, of_forms, of_header, of_refusal, of_sums};
 use crate::judge::{Judge, Judged, Verdict};
 
 const COUNT: u64 = 4000;
@@ -87,6 +87,7 @@ fn features(input: &Input, judged: &Judged) -> Vec<Feature> {
     match &judged.verdict {
         Verdict::Accepted(header) if header.rows.len() <= MOST_ROWS && header.is_utf8() => {
             let mut features = of_header(input, header);
+            features.extend(of_sums(header, &judged.closings));
             features.extend(of_forms(input, "accepted", &found.forms));
             features.extend(of_forms(input, "failing", &found.failed));
             features
@@ -133,12 +134,12 @@ fn choose(shown: &Shown, seed: u64, count: usize) -> Vec<Chosen> {
 }
 
 /// Features in a random order, so that none is left out for its name alone, rank by rank. Those of
-/// padded forms come first: they are few, and there is not room for all others.
+/// padded forms and of sums come first: they are few, and there is not room for all others.
 fn ranked(shown: &Shown, seed: u64) -> Vec<(&Feature, &Input)> {
     let mut random = Random::new(seed, u64::MAX);
     let mut features: Vec<_> = shown
         .iter()
-        .map(|shown| ((!shown.0.is_form(), random.number()), shown))
+        .map(|shown| ((!shown.0.is_form_or_sum(), random.number()), shown))
         .collect();
     features.sort_by_key(|(order, _)| *order);
     let at_rank = |rank: usize| {
