@@ -18,7 +18,8 @@ const ROUNDS: usize = 4;
 pub trait Summed {
     /// The closings that a reading reaches, in their order.
     fn closings(&self) -> Vec<Closing>;
-    fn file(&mut self) -> &mut [u8];
+    fn bytes(&self) -> &[u8];
+    fn bytes_mut(&mut self) -> &mut [u8];
 }
 
 /// A header in a file.
@@ -30,7 +31,11 @@ impl Summed for Input {
         }
     }
 
-    fn file(&mut self) -> &mut [u8] {
+    fn bytes(&self) -> &[u8] {
+        &self.file
+    }
+
+    fn bytes_mut(&mut self) -> &mut [u8] {
         &mut self.file
     }
 }
@@ -45,7 +50,11 @@ impl Summed for Vec<u8> {
         closings
     }
 
-    fn file(&mut self) -> &mut [u8] {
+    fn bytes(&self) -> &[u8] {
+        self
+    }
+
+    fn bytes_mut(&mut self) -> &mut [u8] {
         self
     }
 }
@@ -59,9 +68,8 @@ pub fn first_false(closings: &[Closing], file: &[u8]) -> Option<Closing> {
 }
 
 /// Whether every stored value is true that a reading reaches.
-pub fn is_true(given: &mut impl Summed) -> bool {
-    let closings = given.closings();
-    first_false(&closings, given.file()).is_none()
+pub fn is_true(given: &impl Summed) -> bool {
+    first_false(&given.closings(), given.bytes()).is_none()
 }
 
 /// Makes every stored value true that a reading reaches. That fails where one is a part of another,
@@ -69,7 +77,7 @@ pub fn is_true(given: &mut impl Summed) -> bool {
 pub fn make_true(given: &mut impl Summed) {
     for _ in 0..ROUNDS {
         let closings = given.closings();
-        if !store_all(closings, given.file()) {
+        if !store_all(closings, given.bytes_mut()) {
             return;
         }
     }

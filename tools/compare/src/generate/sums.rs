@@ -34,7 +34,7 @@ impl Sums {
         make_true(&mut given);
         if !self.damaged && self.random.rarely(FALSE) {
             let closings = given.closings();
-            self.falsify(given.file(), &closings);
+            self.falsify(given.bytes_mut(), &closings);
         }
         given
     }

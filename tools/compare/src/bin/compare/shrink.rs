@@ -27,7 +27,7 @@ struct Shrink<'a> {
 
 /// A smaller input that still shows what `shows` looks for. Sums that are true stay true.
 pub fn shrink(input: &Input, shows: &mut dyn FnMut(&Input) -> bool) -> Input {
-    let sums = is_true(&mut input.clone());
+    let sums = is_true(input);
     let restore = |input: &mut Input| {
         if sums {
             make_true(input);
@@ -55,7 +55,7 @@ fn smallest(
 /// A smaller plain file that still shows what `shows` looks for. Where the Rust reads its
 /// superblock, end-of-file address and root follow the bytes that are dropped.
 pub fn shrink_plain(file: &[u8], shows: &mut dyn FnMut(&[u8]) -> bool) -> Vec<u8> {
-    let sums = is_true(&mut file.to_vec());
+    let sums = is_true(&file.to_vec());
     let restore = |input: &mut Input| {
         set_values(input);
         if sums {

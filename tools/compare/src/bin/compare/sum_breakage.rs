@@ -57,7 +57,7 @@ pub const SUMS: &[Breakage] = &[
         renumber(o, |number| if number == CHECKSUM { 3 } else { number })
     }),
     breakage("sum-of-whole-steps", |i, o| {
-        lose(i, o, |c, _| (c.end - c.from).is_multiple_of(STEP))
+        lose(i, o, |c, _| (c.end - c.from) % STEP == 0)
     }),
     breakage("sum-stored-behind-the-entries", |i, o| {
         lose(i, o, |c, next| {
