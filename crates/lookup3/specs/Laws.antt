@@ -8,7 +8,7 @@ use native.Mathlib.Omega.{arith}
 use borrow.Author.Tests.{eqb-true, eq-eqb}
 use lib.Arith.{digits-lt}
 use lib.Pow.{pow-add, pow-pos, mod-pow-add, shl-shr, shr-lt}
-use lib.ListN.{length, getD, List·getD-eq-default}
+use lib.ListN.{length, List·getD-eq-default}
 use Rattle.format.specs.Bytes.{le}
 use Rattle.format.specs.BytesLaws.{le-split}
 use Rattle.lookup3.specs.declared.Words.{Words}

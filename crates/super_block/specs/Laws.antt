@@ -80,11 +80,11 @@ module _ (s : List ℕ) where
       let k = kept (le s 9 1) (le s 10 1) 12 q b (w .2) in
       rw (← k .0, ← k .1, w .0, w .1)
 
-  -- the checksum lies in the file, behind the flags at least
-  pub fields-inside : (b : SuperBlock) (q : ℕ) → read s superBlock 0 ≡ found b q → (4 ≤ q) × (q ≤ length s)
+  -- the fields end behind the flags, and in the file
+  pub fields-inside : (b : SuperBlock) (q : ℕ) → read s superBlock 0 ≡ found b q → (12 ≤ q) × (q ≤ length s)
   fields-inside b q e =
       let h = sound s superBlock 0 q b e in
-      (omega (arith, forward s (addresses (le s 9 1) (le s 10 1)) 12 q b (behind q b h .2)), inside s superBlock 0 q b h (omega arith))
+      (forward s (addresses (le s 9 1) (le s 10 1)) 12 q b (behind q b h .2), inside s superBlock 0 q b h (omega arith))
 
   -- so of an answer that is the superblock's
   widths-read : (r : SuperBlockRead) → superBlockOut r ≡ superBlockOf s → WidthsRead r

@@ -1,7 +1,7 @@
 -- The sum from the start is the sum from here on, of what is left and with the words mixed so far.
 use Rattle.lookup3.specs.declared.Words.{Words}
 use lib.ListN.{length}
-use mathlib.Core.Path.{_≡_, ap, sym, _∙_}
+use mathlib.Core.Path.{_≡_, ap, _∙_}
 use Prim.Native.Nat.{_+_, _-_, _/_, _<_}
 use borrow.Author.Needs.{needs}
 use native.Mathlib.Omega.{arith}

@@ -1,7 +1,7 @@
 -- A number past the end is zero, and one that the end cuts is that of the bytes before the end.
 use lib.ListN.{length, getD}
 use Prim.Native.Nat.{ℕ, _-_, _<_}
-use mathlib.Core.Path.{_≡_, sym, _∙_}
+use mathlib.Core.Path.{sym, _∙_}
 use Rattle.format.specs.BytesLaws.{le-below}
 use Rattle.lookup3.specs.Laws.{le-past, le-cut}
 use native.Mathlib.Omega.{arith}
