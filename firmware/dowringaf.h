@@ -20,11 +20,12 @@
  *     the other three functions use less than the first.
  *
  * Time is not proved either. For one entry of a header the file is read forwards, up to its end at
- * most, so that a call takes at most in proportion to the entries times the bytes of the file. There
- * are at most 4,096 entries, and with r rows lent at most r + 1 messages are read. Attributes whose
- * types fail at the file's last byte reach this: 4,096 of them took 0.3 s in 65,536 bytes, 3 s in
- * 1,048,576 and up to 157 s in 16,777,216 (docs/DECISIONS.md, "The time of a call"). Where an answer
- * is due within a time, bound file_bytes or table_words.
+ * most, and so it is for the checksum of a block that an entry leads to; so a call takes at most in
+ * proportion to the entries times the bytes of the file. There are at most 4,096 entries, and with r
+ * rows lent at most r + 1 messages are read. Attributes whose types fail at the file's last byte
+ * reach this: 4,096 of them took 0.3 s in 65,536 bytes, 3 s in 1,048,576 and up to 157 s in
+ * 16,777,216 (docs/DECISIONS.md, "The time of a call"). Where an answer is due within a time, bound
+ * file_bytes or table_words.
  *
  * Every struct below is made of 64-bit words, without padding.
  */
@@ -73,7 +74,8 @@ enum dowringaf_refusal {
     DOWRINGAF_TABLE = 24,                  /* a table with too few rows */
     DOWRINGAF_SUPERBLOCK_SIGNATURE = 25,   /* no HDF5 format signature at byte 0 */
     DOWRINGAF_SUPERBLOCK_VERSION = 26,     /* a superblock of a version other than 2 and 3 */
-    DOWRINGAF_BASE_ADDRESS = 27            /* a base address other than 0 */
+    DOWRINGAF_BASE_ADDRESS = 27,           /* a base address other than 0 */
+    DOWRINGAF_CHECKSUM = 28                /* a checksum that is not that of its bytes */
 };
 
 /*
@@ -214,6 +216,11 @@ typedef struct dowringaf_superblock {
  * words for each message, in the header's order, then zeros. A header that is refused leaves the
  * whole table zero. Writes every word of the object. What stood in the table and the object before
  * makes no difference. Widths are in bytes.
+ *
+ * The header and every block that it leads to must close with the standard's checksum of their bytes
+ * (Jenkins' lookup3 with an initial value of 0), or they are refused with DOWRINGAF_CHECKSUM. It is
+ * tested when all else of the header or the block is passed, so that what is refused for another
+ * reason has that reason's number. No superblock is read.
  */
 void dowringaf_data_object(const uint8_t *file, size_t file_bytes, uint64_t position,
                            uint64_t offset_width, uint64_t length_width, uint64_t end_of_file,
@@ -240,8 +247,8 @@ dowringaf_part dowringaf_layout_data(const uint8_t *file, size_t file_bytes, siz
  * Reads the superblock at byte 0 of a file: signature, version, sizes of offsets and of lengths,
  * flags, the four addresses in the struct's order, checksum. After the file's size, the first of
  * them counts that leaves the file, which is DOWRINGAF_SHORT, or that is not as it must be, which
- * has its own number. Flags and checksum may be any. No address but the base is tested, and none is
- * compared with file_bytes.
+ * has its own number. The checksum must be that of all bytes before it; the flags may be any. No
+ * address but the base is tested, and none is compared with file_bytes.
  */
 dowringaf_superblock dowringaf_super_block(const uint8_t *file, size_t file_bytes);
 

@@ -13,6 +13,7 @@
 #include <string.h>
 
 #include "dowringaf.h"
+#include "lookup3.h"
 
 enum { STACK = 1 << 18, PATTERN = 0xA5, BLOCKS = 25, TYPES = 32, SUPERBLOCK = 48, ROOM = 4096 };
 
@@ -31,6 +32,12 @@ static void put(uint64_t number, int width)
         file[count++] = (uint8_t)(number & 255);
         number >>= 8;
     }
+}
+
+/* The sum of what was written from a place on. */
+static void put_sum(size_t from)
+{
+    put(lookup3(file + from, count - from), 4);
 }
 
 static void put_signature(const char *signature)
@@ -84,26 +91,28 @@ static void write_superblock(void)
     put(UINT64_MAX, 8);
     put(bytes, 8);
     put(SUPERBLOCK, 8);
-    put(0, 4);
+    put_sum(0);
     count = bytes;
 }
 
 static void write_deepest(void)
 {
+    size_t from = SUPERBLOCK;
     int i;
 
-    count = SUPERBLOCK;
+    count = from;
     put_signature("OHDR");
     put(2, 1);
     put(0, 1);
     put(20, 1);
     for (i = 0; i < BLOCKS; i++) {
         put_continuation(4, i < BLOCKS - 1 ? 28 : TYPES * 8 + 4 + 4 + 8);
-        put(0, 4);
+        put_sum(from);
+        from = count;
         put_signature("OCHK");
     }
     put_types();
-    put(0, 4);
+    put_sum(from);
     write_superblock();
 }
 

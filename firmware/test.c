@@ -3,13 +3,15 @@
  * and the comparison of declarations in `build` ties dowringaf.h to the library.
  *
  * Every block that a call is given has exactly the bytes that the call is told of, so that a memory
- * checker sees a read or a write beyond them.
+ * checker sees a read or a write beyond them. Headers, their blocks and superblocks have their true
+ * sums, unless it is said that they are false.
  */
 #include <stdio.h>
 #include <stdlib.h>
 #include <string.h>
 
 #include "dowringaf.h"
+#include "lookup3.h"
 
 /* Words of 64 bits, and nothing between them. */
 #define HAS_WORDS(type, n) typedef char type##_has_its_words[sizeof(type) == (n) * 8 ? 1 : -1]
@@ -108,6 +110,24 @@ static void put_text(struct writer *w, const char *text)
     }
 }
 
+/* Makes the sum true that stands at the end of some bytes. */
+static void make_true(uint8_t *bytes, size_t from, size_t end)
+{
+    uint32_t sum = lookup3(bytes + from, end - from);
+    int i;
+
+    for (i = 0; i < 4; i++) {
+        bytes[end + (size_t)i] = (uint8_t)(sum >> i * 8 & 255);
+    }
+}
+
+/* The sum of what was written from a place on. */
+static void put_sum(struct writer *w, size_t from)
+{
+    make_true(w->bytes, from, w->count);
+    w->count += 4;
+}
+
 /* Type, size and flags of an entry. */
 static size_t entry(struct writer *w, int type, int size, int flags)
 {
@@ -117,10 +137,17 @@ static size_t entry(struct writer *w, int type, int size, int flags)
     return w->count;
 }
 
-/* The bytes of a superblock's signature, and where the other fields that are tested begin. */
-enum { SIGNATURE_BYTES = 8, VERSION_AT = 8, OFFSET_AT = 9, LENGTH_AT = 10, BASE_AT = 12 };
+/* The bytes of a superblock's signature, and where other fields begin. */
+enum {
+    SIGNATURE_BYTES = 8,
+    VERSION_AT = 8,
+    OFFSET_AT = 9,
+    LENGTH_AT = 10,
+    FLAGS_AT = 11,
+    BASE_AT = 12
+};
 
-/* A superblock of version 3, with any flags and checksum. */
+/* A superblock of version 3, with any flags. */
 static void put_superblock(struct writer *w, int offset_width, int length_width, uint64_t extension,
                            uint64_t end, uint64_t root)
 {
@@ -133,7 +160,7 @@ static void put_superblock(struct writer *w, int offset_width, int length_width,
     put(w, extension, offset_width);
     put(w, end, offset_width);
     put(w, root, offset_width);
-    put(w, 0xA1A2A3A4u, 4);
+    put_sum(w, 0);
 }
 
 /* The full header lies some bytes behind the superblock. */
@@ -265,7 +292,7 @@ static void write_full(struct writer *w, struct places *p)
     put(w, p->data, OFFSET);
     put(w, 9, LENGTH);
     w->bytes[HEADER_FROM + 6] = (uint8_t)(w->count - HEADER_FROM - 8);
-    put(w, 0, 4);
+    put_sum(w, HEADER_FROM);
     put_text(w, "the bytes");
     write_front(w, w->count);
 }
@@ -460,10 +487,14 @@ static void test_refused(void)
     refuse(w.bytes, w.count, HEADER_FROM, OFFSET, 0, DOWRINGAF_TABLE);
     refuse(NULL, 0, 0, OFFSET, 0, DOWRINGAF_SHORT);
     w.bytes[p.body[1]] = 0x38;
+    make_true(w.bytes, HEADER_FROM, p.next - 4);
     refuse(w.bytes, w.count, HEADER_FROM, OFFSET, 75, DOWRINGAF_DATATYPE);
 }
 
-/* A header of one entry, the body of which begins as given and goes on with zeros. */
+/*
+ * A header of one entry, the body of which begins as given and goes on with zeros: with its true sum
+ * and with a false one, which would be refused later.
+ */
 static void refuse_entry(int type, int flags, const char *body, size_t n, uint64_t number)
 {
     struct writer w;
@@ -475,9 +506,12 @@ static void refuse_entry(int type, int flags, const char *body, size_t n, uint64
     put(&w, 0, 1);
     put(&w, 64, 1);
     entry(&w, type, 60, flags);
-    for (i = 0; i < 64; i++) {
+    for (i = 0; i < 60; i++) {
         put(&w, i < n ? (uint8_t)body[i] : 0, 1);
     }
+    put_sum(&w, 0);
+    refuse(w.bytes, w.count, 0, OFFSET, 75, number);
+    w.bytes[w.count - 1] ^= 1;
     refuse(w.bytes, w.count, 0, OFFSET, 75, number);
 }
 
@@ -519,11 +553,13 @@ static void test_headers(void)
     memcpy(file, "OHDR\2\1", 6);
     file[6] = (uint8_t)(ENTRIES * 4 % 256);
     file[7] = (uint8_t)(ENTRIES * 4 / 256);
+    make_true(file, 0, n - 4);
     refuse(file, n, 0, OFFSET, ENTRIES * DOWRINGAF_ROW_WORDS, DOWRINGAF_ENTRIES);
     file[HEAD] = 3;
     for (i = 0; i < TYPES; i++) {
         memcpy(file + HEAD + 4 + i * 8, "\31\0\0\0\1\0\0\0", 8);
     }
+    make_true(file, 0, n - 4);
     refuse(file, n, 0, OFFSET, 75, DOWRINGAF_TYPE_LEVEL);
     free(file);
 }
@@ -547,7 +583,7 @@ static void test_fixed(void)
     put(&w, 4, 4);
     put(&w, 5, 2);
     put(&w, 27, 2);
-    put(&w, 0, 4);
+    put_sum(&w, 0);
     file = copy(w.bytes, w.count);
     dowringaf_data_object(file, w.count, 0, 2, 2, w.count, table, DOWRINGAF_ROW_WORDS, o);
     IS(o->refused, 0);
@@ -589,11 +625,11 @@ static void test_block(void)
     entry(&w, 16, 4, 0);
     put(&w, 19, 2);
     put(&w, 16, 2);
-    put(&w, 0, 4);
+    put_sum(&w, 0);
     put_text(&w, "OCHK");
     entry(&w, 0, 0, 0);
     entry(&w, 255, 0, 0);
-    put(&w, 0, 4);
+    put_sum(&w, 19);
     file = copy(w.bytes, w.count);
     dowringaf_data_object(file, w.count, 0, 2, 2, w.count, table, 20, o);
     IS(o->refused, 0);
@@ -660,7 +696,7 @@ static void write_small(struct writer *w)
     put(w, 0xBBAA, 2);
     entry(w, 10, 2, 0);
     put(w, 0, 2);
-    put(w, 0, 4);
+    put_sum(w, SUPERBLOCK);
 }
 
 static const char small_listing[] = "0,0,0,2,59,-,-,-,-\n1,10,0,2,65,-,-,-,-\nend,71,2\n";
@@ -717,19 +753,14 @@ static void superblock_is(const struct writer *w, const dowringaf_superblock *ex
     free(file);
 }
 
-/* Refused with a number as a superblock, as a root and as a listing; all else is zero. */
-static void refuse_superblock(const uint8_t *bytes, size_t n, uint64_t number)
+/* Refused with a number as a root and as a listing; all else is zero. */
+static void refuse_root(const uint8_t *bytes, size_t n, uint64_t number)
 {
-    static const dowringaf_superblock zeros = {0, 0, 0, 0, 0, 0, 0};
     uint8_t *file = copy(bytes, n);
     uint64_t *table = ones(75);
     dowringaf_object *o = object_of_ones();
-    dowringaf_superblock block = dowringaf_super_block(file, n);
     char listing[32];
 
-    IS(block.refused, number);
-    block.refused = 0;
-    IS((uint64_t)memcmp(&block, &zeros, sizeof block), 0);
     dowringaf_root_object(file, n, table, 75, o);
     IS(o->refused, number);
     compare_zeros(o, table, 75);
@@ -738,6 +769,20 @@ static void refuse_superblock(const uint8_t *bytes, size_t n, uint64_t number)
     free(file);
     free(table);
     free(o);
+}
+
+/* Refused with a number as a superblock, as a root and as a listing; all else is zero. */
+static void refuse_superblock(const uint8_t *bytes, size_t n, uint64_t number)
+{
+    static const dowringaf_superblock zeros = {0, 0, 0, 0, 0, 0, 0};
+    uint8_t *file = copy(bytes, n);
+    dowringaf_superblock block = dowringaf_super_block(file, n);
+
+    IS(block.refused, number);
+    block.refused = 0;
+    IS((uint64_t)memcmp(&block, &zeros, sizeof block), 0);
+    refuse_root(file, n, number);
+    free(file);
 }
 
 /* A superblock in which every field has a value of its own. */
@@ -758,6 +803,7 @@ static void test_superblock(void)
     write_own(&w);
     superblock_is(&w, &own);
     w.bytes[VERSION_AT] = 2;
+    make_true(w.bytes, 0, w.count - 4);
     superblock_is(&w, &own);
     for (width = 2; width <= 8; width++) {
         dowringaf_superblock wide = own;
@@ -774,6 +820,14 @@ static void test_superblock(void)
     }
 }
 
+/* A field that is wrong counts before a false sum, and with a true one. */
+static void refuse_field(struct writer *w, uint64_t number)
+{
+    refuse_superblock(w->bytes, w->count, number);
+    make_true(w->bytes, 0, w->count - 4);
+    refuse_superblock(w->bytes, w->count, number);
+}
+
 /* Each value that a field must not have, and every cut. */
 static void test_refused_superblocks(void)
 {
@@ -787,25 +841,25 @@ static void test_refused_superblocks(void)
         refuse_superblock(w.bytes, i, DOWRINGAF_SHORT);
     }
     for (i = 0; i < SIGNATURE_BYTES; i++) {
+        write_own(&w);
         w.bytes[i] ^= 0x20;
-        refuse_superblock(w.bytes, w.count, DOWRINGAF_SUPERBLOCK_SIGNATURE);
-        w.bytes[i] ^= 0x20;
+        refuse_field(&w, DOWRINGAF_SUPERBLOCK_SIGNATURE);
     }
     for (i = 0; i < 4; i++) {
         write_own(&w);
         w.bytes[VERSION_AT] = versions[i];
-        refuse_superblock(w.bytes, w.count, DOWRINGAF_SUPERBLOCK_VERSION);
+        refuse_field(&w, DOWRINGAF_SUPERBLOCK_VERSION);
         write_own(&w);
         w.bytes[OFFSET_AT] = widths[i];
-        refuse_superblock(w.bytes, w.count, DOWRINGAF_WIDTH);
+        refuse_field(&w, DOWRINGAF_WIDTH);
         write_own(&w);
         w.bytes[LENGTH_AT] = widths[i];
-        refuse_superblock(w.bytes, w.count, DOWRINGAF_WIDTH);
+        refuse_field(&w, DOWRINGAF_WIDTH);
     }
     for (i = BASE_AT; i < BASE_AT + 7; i++) {
         write_own(&w);
         w.bytes[i] = 0x80;
-        refuse_superblock(w.bytes, w.count, DOWRINGAF_BASE_ADDRESS);
+        refuse_field(&w, DOWRINGAF_BASE_ADDRESS);
     }
 }
 
@@ -820,7 +874,8 @@ static void test_superblock_order(void)
         size_t end;
         uint8_t wrong;
         uint64_t number;
-    } fields[5] = {
+    } fields[6] = {
+        {BASE_AT + 28, BASE_AT + 32, 0, DOWRINGAF_CHECKSUM},
         {BASE_AT, BASE_AT + 7, 1, DOWRINGAF_BASE_ADDRESS},
         {LENGTH_AT, LENGTH_AT + 1, 9, DOWRINGAF_WIDTH},
         {OFFSET_AT, OFFSET_AT + 1, 1, DOWRINGAF_WIDTH},
@@ -831,7 +886,7 @@ static void test_superblock_order(void)
     size_t i;
 
     write_own(&w);
-    for (i = 0; i < 5; i++) {
+    for (i = 0; i < 6; i++) {
         w.bytes[fields[i].at] = fields[i].wrong;
         refuse_superblock(w.bytes, w.count, fields[i].number);
         refuse_superblock(w.bytes, fields[i].end, fields[i].number);
@@ -895,6 +950,150 @@ static void test_root(void)
     free(o);
 }
 
+/* Something that closes with a sum: where that begins and stands, and a byte that may be any. */
+struct closing {
+    size_t from;
+    size_t end;
+    size_t any;
+};
+
+/* The superblock, the header, a block that the header leads to, and one that the block leads to. */
+enum { CLOSINGS = 4, BLOCK = 2, INNER = 3 };
+
+/* An entry that is skipped, of one byte, and the sum. */
+enum { CLOSING_BYTES = 4 + 1 + 4 };
+
+static void put_closing(struct writer *w, struct closing *c)
+{
+    c->any = entry(w, 0, 1, 0);
+    put(w, 0x5A, 1);
+    c->end = w->count;
+    put_sum(w, c->from);
+}
+
+/* An entry that leads to a block behind the closing that follows. */
+enum { LEADING_BYTES = 4 + OFFSET + LENGTH };
+
+static void put_leading(struct writer *w, int block_bytes)
+{
+    size_t body = entry(w, 16, OFFSET + LENGTH, 0);
+
+    put(w, body + OFFSET + LENGTH + CLOSING_BYTES, OFFSET);
+    put(w, (uint64_t)block_bytes, LENGTH);
+}
+
+static void write_nested(struct writer *w, struct closing c[CLOSINGS])
+{
+    int i;
+
+    w->count = SUPERBLOCK;
+    put_text(w, "xyz");
+    c[1].from = w->count;
+    put_text(w, "OHDR\2");
+    put(w, 0, 1);
+    put(w, LEADING_BYTES + CLOSING_BYTES - 4, 1);
+    put_leading(w, 4 + LEADING_BYTES + CLOSING_BYTES);
+    put_closing(w, &c[1]);
+    for (i = BLOCK; i <= INNER; i++) {
+        c[i].from = w->count;
+        put_text(w, "OCHK");
+        if (i == BLOCK) {
+            put_leading(w, 4 + CLOSING_BYTES);
+        }
+        put_closing(w, &c[i]);
+    }
+    write_front(w, w->count);
+    c[0].from = 0;
+    c[0].end = SUPERBLOCK - 4;
+    c[0].any = FLAGS_AT;
+}
+
+/* The nested header by hand, for which no superblock is read. */
+static void nested_is_read(const struct writer *w, const struct closing c[CLOSINGS])
+{
+    uint8_t *file = copy(w->bytes, w->count);
+    uint64_t *table = ones(75);
+    dowringaf_object *o = object_of_ones();
+
+    dowringaf_data_object(file, w->count, HEADER_FROM, OFFSET, LENGTH, w->count, table, 75, o);
+    IS(o->refused, 0);
+    IS(o->next, c[1].end + 4);
+    IS(o->entries, 5);
+    IS(o->rows, 3);
+    IS(table[DOWRINGAF_ROW_BODY], c[INNER].any);
+    free(file);
+    free(table);
+    free(o);
+}
+
+/* A false sum is refused by every function that meets it, and by no other. */
+static void refuse_sum(const struct writer *w, const struct closing c[CLOSINGS], int false_one)
+{
+    uint8_t *file = copy(w->bytes, w->count);
+
+    if (false_one == 0) {
+        refuse_superblock(file, w->count, DOWRINGAF_CHECKSUM);
+        nested_is_read(w, c);
+    } else {
+        IS(dowringaf_super_block(file, w->count).refused, 0);
+        refuse(file, w->count, HEADER_FROM, OFFSET, 75, DOWRINGAF_CHECKSUM);
+        refuse_root(file, w->count, DOWRINGAF_CHECKSUM);
+    }
+    free(file);
+}
+
+/* Every bit of a sum, and of a byte that nothing but the sum depends on. */
+static void test_sums(void)
+{
+    struct writer w;
+    struct closing c[CLOSINGS];
+    int i;
+    int bit;
+
+    write_nested(&w, c);
+    nested_is_read(&w, c);
+    root_is_by_hand(&w, w.count, w.count, 75, 3);
+    for (i = 0; i < CLOSINGS; i++) {
+        for (bit = 0; bit < 8; bit++) {
+            w.bytes[c[i].any] ^= (uint8_t)(1 << bit);
+            refuse_sum(&w, c, i);
+            w.bytes[c[i].any] ^= (uint8_t)(1 << bit);
+        }
+        for (bit = 0; bit < 32; bit++) {
+            w.bytes[c[i].end + (size_t)bit / 8] ^= (uint8_t)(1 << bit % 8);
+            refuse_sum(&w, c, i);
+            w.bytes[c[i].end + (size_t)bit / 8] ^= (uint8_t)(1 << bit % 8);
+        }
+    }
+}
+
+/*
+ * A sum is tested last: all else that is in the header or the block counts before, and a block's sum
+ * before what follows the entry that leads to the block.
+ */
+static void test_sum_order(void)
+{
+    struct writer w;
+    struct closing c[CLOSINGS];
+    size_t n;
+    int i;
+
+    write_small(&w);
+    w.bytes[w.count - 4] ^= 1;
+    refuse(w.bytes, w.count, SUPERBLOCK, OFFSET, 20, DOWRINGAF_CHECKSUM);
+    refuse(w.bytes, w.count, SUPERBLOCK, OFFSET, 19, DOWRINGAF_TABLE);
+    for (n = w.count - 3; n < w.count; n++) {
+        refuse(w.bytes, n, SUPERBLOCK, OFFSET, 20, DOWRINGAF_SHORT);
+    }
+    for (i = 1; i < INNER; i++) {
+        write_nested(&w, c);
+        w.bytes[c[i].any - 1] = 2;
+        refuse(w.bytes, w.count, HEADER_FROM, OFFSET, 75, DOWRINGAF_ENTRY_FLAGS);
+        w.bytes[c[i + 1].end] ^= 1;
+        refuse(w.bytes, w.count, HEADER_FROM, OFFSET, 75, DOWRINGAF_CHECKSUM);
+    }
+}
+
 /* Writes the file of the full header, for another program to read. */
 static int write_file(const char *path)
 {
@@ -931,6 +1130,8 @@ int main(int count, char **words)
     test_refused_superblocks();
     test_superblock_order();
     test_root();
+    test_sums();
+    test_sum_order();
     printf("%lu compared, %lu failed\n", compared, failed);
     return failed == 0 ? 0 : 1;
 }
