@@ -20,12 +20,12 @@
  *     the other three functions use less than the first.
  *
  * Time is not proved either. For one entry of a header the file is read forwards, up to its end at
- * most, and so it is for the checksum of a block that an entry leads to; so a call takes at most in
- * proportion to the entries times the bytes of the file. There are at most 4,096 entries, and with r
- * rows lent at most r + 1 messages are read. Attributes whose types fail at the file's last byte
- * reach this: 4,096 of them took 0.3 s in 65,536 bytes, 3 s in 1,048,576 and up to 157 s in
- * 16,777,216 (docs/DECISIONS.md, "The time of a call"). Where an answer is due within a time, bound
- * file_bytes or table_words.
+ * most, and the checksums are of little more than the bytes that entries pass, so that a call takes
+ * at most in proportion to the entries times the bytes of the file. There are at most 4,096 entries,
+ * and with r rows lent at most r + 1 messages are read. Attributes whose types fail at the file's
+ * last byte reach this: 4,096 of them took 0.3 s in 65,536 bytes, 3 s in 1,048,576 and up to 157 s
+ * in 16,777,216 (docs/DECISIONS.md, "The time of a call"). Where an answer is due within a time,
+ * bound file_bytes or table_words.
  *
  * Every struct below is made of 64-bit words, without padding.
  */
@@ -217,10 +217,10 @@ typedef struct dowringaf_superblock {
  * whole table zero. Writes every word of the object. What stood in the table and the object before
  * makes no difference. Widths are in bytes.
  *
- * The header and every block that it leads to must close with the standard's checksum of their bytes
- * (Jenkins' lookup3 with an initial value of 0), or they are refused with DOWRINGAF_CHECKSUM. It is
- * tested when all else of the header or the block is passed, so that what is refused for another
- * reason has that reason's number. No superblock is read.
+ * The header and every block that it leads to must close with the standard's checksum of their
+ * bytes (Jenkins' lookup3 with an initial value of 0), or the header is refused with
+ * DOWRINGAF_CHECKSUM. Each is tested when all else of it is passed, so that whatever else is wrong
+ * there has its own number. No superblock is read.
  */
 void dowringaf_data_object(const uint8_t *file, size_t file_bytes, uint64_t position,
                            uint64_t offset_width, uint64_t length_width, uint64_t end_of_file,

@@ -492,8 +492,8 @@ static void test_refused(void)
 }
 
 /*
- * A header of one entry, the body of which begins as given and goes on with zeros: with its true sum
- * and with a false one, which would be refused later.
+ * A header of one entry, the body of which begins as given and goes on with zeros: with its true
+ * sum, and with a false one, which would be refused later.
  */
 static void refuse_entry(int type, int flags, const char *body, size_t n, uint64_t number)
 {
@@ -1068,8 +1068,8 @@ static void test_sums(void)
 }
 
 /*
- * A sum is tested last: all else that is in the header or the block counts before, and a block's sum
- * before what follows the entry that leads to the block.
+ * A sum is tested last: all else that is in the header or the block counts before, and a block's
+ * sum before what follows the entry that leads to the block.
  */
 static void test_sum_order(void)
 {
