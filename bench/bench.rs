@@ -5,18 +5,21 @@
 //!     bench SIDE INPUT TIMES           decodes an input so many times; SIDE is port or rust
 //!     bench time INPUT                 nanoseconds a call, the best of many runs: port, then rust
 //!     bench entries INPUT              the entries of an input that both sides accept
+//!     bench summed INPUT               the lengths of what the port sums in it
 
 use std::hint::black_box;
 use std::path::Path;
 use std::process::ExitCode;
 use std::time::Instant;
 
+use sides::closing::Summed;
 use sides::input::{Input, put};
 use sides::plain::SIGNATURE;
 use sides::port::{Outcome as PortOutcome, Port};
 use sides::real;
 use sides::rust::mended::{rust_answer, rust_data_object, rust_parses, rust_super_block};
 use sides::rust::{self, Outcome};
+use sides::sum::lookup3;
 
 const LEVELS: usize = 25;
 const ENTRIES: usize = 4096;
@@ -24,6 +27,8 @@ const ATTRIBUTE: u8 = 12;
 const CONTINUATION: u8 = 16;
 /// An entry's prefix and a continuation's two numbers.
 const CONTINUATION_BYTES: usize = 4 + 8 + 8;
+/// A header's fields and an entry's prefix.
+const FIRST_BYTES: usize = 10 + 4;
 
 /// What both sides are given.
 enum Given {
@@ -99,17 +104,23 @@ fn input(file: Vec<u8>) -> Input {
     }
 }
 
+/// The sum of what was written from a place on.
+fn put_sum(file: &mut Vec<u8>, from: usize) {
+    let sum = lookup3(&file[from..]);
+    put(file, u64::from(sum), 4);
+}
+
 fn header(chunk: usize) -> Vec<u8> {
     let mut file = b"OHDR\x02\x02".to_vec();
     put(&mut file, chunk as u64, 4);
     file
 }
 
-fn flat(messages: usize, make: fn(usize) -> Vec<u8>) -> Input {
+fn flat(messages: usize, make: impl Fn(usize) -> Vec<u8>) -> Input {
     let chunk: Vec<u8> = (0..messages).flat_map(make).collect();
     let mut file = header(chunk.len());
     file.extend(chunk);
-    file.extend([0; 4]);
+    put_sum(&mut file, 0);
     input(file)
 }
 
@@ -121,8 +132,10 @@ fn deep(messages: usize, make: fn(usize) -> Vec<u8>) -> Input {
         .collect();
     let opening = |level: usize| if level < LEVELS { CONTINUATION_BYTES } else { 0 };
     let mut file = header(chunks[0].len() + opening(0));
+    let mut from = 0;
     for (level, chunk) in chunks.iter().enumerate() {
         if level > 0 {
+            from = file.len();
             file.extend(b"OCHK");
         }
         file.extend(chunk);
@@ -132,9 +145,14 @@ fn deep(messages: usize, make: fn(usize) -> Vec<u8>) -> Input {
             let numbers = words(&[], &[next as u64, length as u64]);
             file.extend(entry(CONTINUATION, &numbers));
         }
-        file.extend([0; 4]);
+        put_sum(&mut file, from);
     }
     input(file)
+}
+
+/// One entry that is passed over, of such a size that so many bytes are summed.
+fn skipped(bytes: usize) -> Input {
+    flat(1, |_| entry(0, &vec![0; bytes - FIRST_BYTES]))
 }
 
 fn made() -> Vec<(String, Input)> {
@@ -146,6 +164,9 @@ fn made() -> Vec<(String, Input)> {
             let messages = count.min(ENTRIES - LEVELS);
             inputs.push((format!("{name}-deep-{count}"), deep(messages, make)));
         }
+    }
+    for bytes in [25, 60, 263, 4096, 65536] {
+        inputs.push((format!("skipped-{bytes}"), skipped(bytes)));
     }
     inputs
 }
@@ -257,6 +278,16 @@ fn entries(given: &Given) {
     }
 }
 
+fn summed(given: &Given) {
+    rust::open();
+    let closings = match given {
+        Given::Header(input) => input.closings(),
+        Given::File(file) => file.closings(),
+    };
+    let lengths = closings.iter().map(|c| (c.end - c.from).to_string());
+    println!("{}", lengths.collect::<Vec<_>>().join(" "));
+}
+
 fn main() -> ExitCode {
     let words: Vec<String> = std::env::args().skip(1).collect();
     let words: Vec<&str> = words.iter().map(String::as_str).collect();
@@ -266,11 +297,12 @@ fn main() -> ExitCode {
         }
         ["time", path] => time(&load(path)),
         ["entries", path] => entries(&load(path)),
+        ["summed", path] => summed(&load(path)),
         [side @ ("port" | "rust"), path, times] => {
             run(side, &load(path), times.parse().expect("a number"));
         }
         _ => {
-            eprintln!("usage: bench make DIRECTORY [FILE...] | port|rust INPUT TIMES | time INPUT | entries INPUT");
+            eprintln!("usage: bench make DIRECTORY [FILE...] | port|rust INPUT TIMES | time|entries|summed INPUT");
             return ExitCode::from(2);
         }
     }
