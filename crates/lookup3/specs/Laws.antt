@@ -12,7 +12,7 @@ use lib.ListN.{length, List·getD-eq-default}
 use Rattle.format.specs.Bytes.{le}
 use Rattle.format.specs.BytesLaws.{le-split}
 use Rattle.lookup3.specs.declared.Words.{Words}
-use Rattle.lookup3.specs.Lookup3.{plus, mix, finalMix, addBlock, blocks, start, sumOf, checksum, sumMatches}
+use Rattle.lookup3.specs.Lookup3.{plus, mix, finalMix, addBlock, blocks, start, sumOf, checksum, Matches, sumMatches}
 
 -- of no bytes, and of some
 pub sum-none : (s : List ℕ) {n : ℕ} → n ≡ 0 → sumOf s n ≡ start 0 .c
@@ -63,10 +63,10 @@ unfolding plus
 started n = omega arith
 
 -- a stored checksum matches exactly where it is the checksum
-pub matches-is : (file : List ℕ) (from end : ℕ) → sumMatches file from end ≡ true → le file end 4 ≡ checksum file from (end - from)
+pub matches-is : (file : List ℕ) (from end : ℕ) → sumMatches file from end ≡ true → Matches file from end
 unfolding sumMatches
 matches-is file from end e = eqb-true (le file end 4) (checksum file from (end - from)) e
 
-pub is-matches : (file : List ℕ) (from end : ℕ) → le file end 4 ≡ checksum file from (end - from) → sumMatches file from end ≡ true
+pub is-matches : (file : List ℕ) (from end : ℕ) → Matches file from end → sumMatches file from end ≡ true
 unfolding sumMatches
 is-matches file from end e = eq-eqb (le file end 4) (checksum file from (end - from)) e

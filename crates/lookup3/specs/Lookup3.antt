@@ -1,6 +1,7 @@
 -- I.A: all checksums of the format are Jenkins' lookup3. It is written here from the published `hashlittle`, with initial value 0, whose names are
 -- kept: the words a, b and c, `mix` and `final`. Assumes nothing: these are definitions.
 use Prim.Native.Nat.{ℕ, zero, suc, _+_, _-_, _*_, _/_, _%_, _^_}
+use mathlib.Core.Path.{_≡_}
 use mathlib.Core.Bool.{Bool}
 use mathlib.Core.List.{List}
 use lib.Bits.{bitXor}
@@ -62,6 +63,10 @@ lookup3 s = sumOf s (length s)
 abbrev pub checksum : List ℕ → ℕ → ℕ → ℕ
 checksum file from n = lookup3 (take n (drop from file))
 
--- whether the checksum stored at `end`, in four bytes, is that of the bytes from `from` up to it
+-- the checksum stored at `end`, in four bytes, is that of the bytes from `from` up to it
+abbrev pub Matches : List ℕ → ℕ → ℕ → Type 0
+Matches file from end = le file end 4 ≡ checksum file from (end - from)
+
+-- and whether it is
 unfoldable pub sumMatches : List ℕ → ℕ → ℕ → Bool
 sumMatches file from end = eqb (le file end 4) (checksum file from (end - from))

@@ -4,14 +4,13 @@ use Prim.Native.Nat.{ℕ, _+_, _-_, _≤_, _<_}
 use mathlib.Core.Path.{_≡_}
 use mathlib.Core.List.{List, [], _∷_, _++_}
 use lib.ListN.{length}
-use Rattle.format.specs.Bytes.{le}
 use Rattle.format.specs.Format.{Stands}
-use Rattle.lookup3.specs.Lookup3.{checksum}
+use Rattle.lookup3.specs.Lookup3.{Matches}
 use Rattle.standard.specs.Headers.{ObjectHeaderPrefix, objectHeaderPrefix, HeaderMessage, headerMessage, ContinuationMessage, continuationMessage, continuationSignature}
 
 -- Checksum, by I.A lookup3 of the bytes from a position up to where it stands, in 4 bytes of the file
 abbrev pub ChecksumStands : List ℕ → ℕ → ℕ → Type 0
-ChecksumStands file from at = (at + 4 ≤ length file) × (le file at 4 ≡ checksum file from (at - from))
+ChecksumStands file from at = (at + 4 ≤ length file) × Matches file from at
 
 -- over a file, and the widths of offsets and lengths
 module _ (file : List ℕ) (size-of-offsets size-of-lengths : ℕ) where

@@ -33,6 +33,12 @@ impl Closing {
         Some(u32::from_le_bytes(stored.try_into().ok()?))
     }
 
+    /// Whether its bytes and its value lie in the file. Where the Rust is changed on purpose it may
+    /// come to others.
+    pub fn is_inside(&self, file: &[u8]) -> bool {
+        self.from < self.end && self.stored(file).is_some()
+    }
+
     /// Whether the stored value is the sum.
     pub fn holds(&self, file: &[u8]) -> bool {
         self.stored(file).is_some() && self.stored(file) == self.sum(file)

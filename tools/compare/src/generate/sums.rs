@@ -42,10 +42,12 @@ impl Sums {
     /// Flips a bit of one stored value or of the bytes that it is the sum of, or puts a wrong sum in
     /// its place.
     fn falsify(&mut self, file: &mut [u8], closings: &[Closing]) {
+        let inside = |closing: &&Closing| closing.is_inside(file);
+        let closings: Vec<Closing> = closings.iter().filter(inside).copied().collect();
         if closings.is_empty() {
             return;
         }
-        let closing = self.random.pick(closings);
+        let closing = self.random.pick(&closings);
         let within = |random: &mut Random, from: usize, end: usize| {
             from + random.below((end - from) as u64) as usize
         };
