@@ -24,9 +24,9 @@
  * most in proportion to the entries times the bytes of the file. There are at most 4,096 entries,
  * and with r rows lent at most r + 1 messages are read. Attributes whose types fail at the file's
  * last byte reach this: 4,096 of them took 0.3 s in 65,536 bytes, 3 s in 1,048,576 and up to 157 s
- * in 16,777,216 (docs/DECISIONS.md, "The time of a call"). Blocks of the whole file, opened as
- * often as entries allow, took 0.1 s, 0.7 s and 10 s for their checksums. Where an answer is due
- * within a time, bound file_bytes or table_words.
+ * in 16,777,216 (docs/DECISIONS.md, "The time of a call"). Blocks of nearly a whole file, opened
+ * as often as entries allow, took 0.1 s, 0.7 s and 10 s for their checksums in files of about
+ * these sizes. Where an answer is due within a time, bound file_bytes or table_words.
  *
  * Every struct below is made of 64-bit words, without padding.
  */

@@ -32,7 +32,7 @@ pub record Source : Type 1 where
   pub entry : Format Held
   pub sum : ℕ → ℕ → Bool
 
--- What closes a block from o to w, and a header's chunk from o to e, after a run that ends at q: the gap, the 4 bytes of the stored checksum
+-- What closes a block from o to w, and a header from o whose chunk ends at e, after a run that ends at q: the gap, the 4 bytes of the stored checksum
 -- (a block's w counts them), and then its test.
 unfoldable pub blockEnd : (ℕ → ℕ → Bool) → ℕ → ℕ → ℕ → Format (Unit {0})
 blockEnd sum o w q = skip (w - q) (check (sum o (w - 4)) 28 nothing)

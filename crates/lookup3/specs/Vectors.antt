@@ -1,4 +1,5 @@
--- Published sums, and that the definition gives each: a wrong constant in definition and code alike would show here. Assumes nothing.
+-- Sums that others published or wrote, and that the definition gives each: a wrong constant in definition and code alike would show here.
+-- Assumes nothing.
 use Prim.Native.Nat.{ℕ}
 use mathlib.Core.Path.{_≡_, refl}
 use mathlib.Core.List.{List, [], _∷_}

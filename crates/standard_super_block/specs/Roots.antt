@@ -1,15 +1,11 @@
 -- What is handed over of a plain file is its root's header as the specification has it: the header at the address, and read with the widths, that
 -- the fields of the superblock name. Assumes nothing.
-use Prim.Native.Nat.{ℕ, _-_, _≤_}
-use mathlib.Core.Path.{_≡_, refl, sym, ap, _∙_}
-use mathlib.Core.Bool.{true}
+use Prim.Native.Nat.{ℕ, _≤_}
+use mathlib.Core.Path.{_≡_, refl, ap, _∙_}
 use mathlib.Core.List.{List}
-use native.Mathlib.Omega.{arith}
 use lib.ListN.{getD}
 use Rattle.format.specs.Format.{Stands, Out, found, refused}
 use Rattle.format.specs.Laws.{sound}
-use Rattle.lookup3.specs.Lookup3.{sumMatches}
-use Rattle.lookup3.specs.Laws.{matches-is}
 use Rattle.records.specs.RefusalLaws.{refusal-positive}
 use Rattle.super_block.specs.declared.SuperBlock.{SuperBlock}
 use Rattle.super_block.specs.SuperBlocks.{superBlock, superBlockOf}
@@ -23,7 +19,7 @@ use Rattle.data_object_words.specs.Handed.{Handed}
 use Rattle.data_object_root.specs.Root.{HandedBy, HandedRoot}
 use Rattle.standard.specs.Superblocks.{Superblock, superblock23, ValidChecksum}
 use Rattle.standard_header.specs.Handed.{Standard, decoded-standard}
-use Rattle.standard_super_block.specs.Ties.{super-block-tied, checksum-field}
+use Rattle.standard_super_block.specs.Ties.{super-block-tied, super-block-checksum}
 
 -- Over a file, a table of n words, which ends as t, with the words w; and the longest name of a member that the specification's formats are asked
 -- for.
@@ -46,9 +42,6 @@ module _ (file : List ℕ) (n longest : ℕ) (t w : List ℕ) where
   pub root-standard : 4095 ≤ longest → HandedRoot file n t w → getD w 0 0 ≡ 0 → RootIs
   root-standard enough h z = by-block (superBlockOf file) refl h
     where
-      valid-checksum : (q : ℕ) (x : Superblock) → Stands file superblock23 0 q x → sumMatches file 0 (q - 4) ≡ true → ValidChecksum file q x
-      valid-checksum q x s m = let d : q - 4 - 0 ≡ q - 4 = omega arith in sym (checksum-field file q x s) ∙ (rw d at (matches-is file 0 (q - 4) m))
-
       by-answer : (b : SuperBlock) (q : ℕ) → superBlockOf file ≡ found b q
           → (d : Handed file (b .«size_of_offsets») (b .«size_of_lengths») (b .«end_of_file_address») (b .«root_group_object_header_address») n t w)
           → (a : Answer) → d .object .answer ≡ a → RootIs
@@ -59,7 +52,7 @@ module _ (file : List ℕ) (n longest : ℕ) (t w : List ℕ) where
             superblock = x .value;
             end = q;
             stands = x .stands;
-            checksum = valid-checksum q (x .value) (x .stands) (super-block-read file e .2);
+            checksum = super-block-checksum file b q (x .value) e (x .stands);
             object = d .object;
             words = d .words;
             next = next;

@@ -1,7 +1,7 @@
 -- The superblock that is read is the specification's, and a superblock of the specification is read. Entries are those of docs/DIFFERENCES.md,
 -- part one. Assumes nothing.
 use Prim.Native.Nat.{ℕ, _+_, _-_, _≤_}
-use mathlib.Core.Path.{_≡_, refl, ap, _∙_}
+use mathlib.Core.Path.{_≡_, refl, sym, ap, _∙_}
 use mathlib.Core.Bool.{true, _||_}
 use mathlib.Core.List.{List}
 use native.Mathlib.Omega.{arith}
@@ -12,11 +12,12 @@ use Rattle.format.specs.Bytes.{le}
 use Rattle.format.specs.Format.{Stands, found}
 use Rattle.format.specs.Laws.{complete}
 use Rattle.format.specs.Standing.{stands-check}
-use Rattle.lookup3.specs.Lookup3.{checksum}
-use Rattle.lookup3.specs.Laws.{is-matches}
+use Rattle.lookup3.specs.Lookup3.{Matches}
+use Rattle.lookup3.specs.Laws.{matches-is, is-matches}
 use Rattle.parser.specs.States.{fileLimit, widthAllowed}
 use Rattle.super_block.specs.declared.SuperBlock.{SuperBlock}
 use Rattle.super_block.specs.SuperBlocks.{addresses, superBlock, superBlockOf}
+use Rattle.super_block.specs.Laws.{super-block-read}
 use Rattle.standard.specs.Tie.{Tied, tied-done, tied-number, tied-check, tied-only}
 use Rattle.standard.specs.Superblocks.{Superblock, signature, superblock23, ValidChecksum}
 
@@ -80,7 +81,7 @@ handed x =
     }
 
 -- the checksum is stored in the last four bytes of the superblock
-pub checksum-field : (s : List ℕ) (q : ℕ) (x : Superblock) → Stands s superblock23 0 q x → le s (q - 4) 4 ≡ x .superblock-checksum
+checksum-field : (s : List ℕ) (q : ℕ) (x : Superblock) → Stands s superblock23 0 q x → le s (q - 4) 4 ≡ x .superblock-checksum
 unfolding superblock23
 checksum-field s q x h =
     let a = stands-check s (eqb (le s 0 8) signature) 0 _ 8 q x (h .1) in
@@ -103,9 +104,16 @@ stands s q x r h =
     let z = eq-eqb (le s 12 (le s 9 1)) 0 (ap (λ (y : Superblock). y .base-address) e ∙ r .base) in
     (h .0, rw (a .0) (a .1 .0, rw (b .0) (b .1 .0, rw o (b .1 .1 .0, rw l (b .1 .1 .1 .0, (w .0, rw z (w .1 .0, (w .1 .1 .0, (w .1 .1 .1 .0, (w .1 .1 .1 .1 .0, (w .1 .1 .1 .1 .1 .0, ap handed e)))))))))))
 
--- its checksum is the one that is asked for
-valid : (file : List ℕ) (q : ℕ) (x : Superblock) → Stands file superblock23 0 q x → ValidChecksum file q x → le file (q - 4) 4 ≡ checksum file 0 (q - 4 - 0)
-valid file q x h v = let e : q - 4 - 0 ≡ q - 4 = omega arith in rw e (checksum-field file q x h ∙ v)
+-- a checksum is the one that the specification asks for exactly where it matches
+valid-matches : (file : List ℕ) (q : ℕ) (x : Superblock) → Stands file superblock23 0 q x → ValidChecksum file q x → Matches file 0 (q - 4)
+valid-matches file q x h v = let e : q - 4 - 0 ≡ q - 4 = omega arith in rw e (checksum-field file q x h ∙ v)
+
+matches-valid : (file : List ℕ) (q : ℕ) (x : Superblock) → Stands file superblock23 0 q x → Matches file 0 (q - 4) → ValidChecksum file q x
+matches-valid file q x h m = let e : q - 4 - 0 ≡ q - 4 = omega arith in sym (checksum-field file q x h) ∙ (rw e at m)
+
+-- the checksum of a superblock that is read is the one that the specification asks for
+pub super-block-checksum : (file : List ℕ) (b : SuperBlock) (q : ℕ) (x : Superblock) → superBlockOf file ≡ found b q → Stands file superblock23 0 q x → ValidChecksum file q x
+super-block-checksum file b q x e h = matches-valid file q x h (matches-is file 0 (q - 4) (super-block-read file e .2))
 
 -- and so it is read, with its fields
 pub superblock-is-read : (file : List ℕ) (q : ℕ) (x : Superblock) → Stands file superblock23 0 q x → ReadSuperblock file q x
@@ -113,7 +121,7 @@ pub superblock-is-read : (file : List ℕ) (q : ℕ) (x : Superblock) → Stands
 unfolding superBlockOf
 superblock-is-read file q x h r = (
   handed x,
-  rw (le-leb (length file) fileLimit (r .small), complete file superBlock 0 q (handed x) (stands file q x r h), is-matches file 0 (q - 4) (valid file q x h (r .checksum))),
+  rw (le-leb (length file) fileLimit (r .small), complete file superBlock 0 q (handed x) (stands file q x r h), is-matches file 0 (q - 4) (valid-matches file q x h (r .checksum))),
   record {
     size-of-offsets = refl;
     size-of-lengths = refl;
