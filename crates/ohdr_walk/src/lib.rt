@@ -15,7 +15,7 @@ ghost use mathlib.Core.Path.{_≡_};
 ghost use mathlib.Core.List.{List};
 ghost use Prim.Native.Nat.{ℕ, _+_, _-_, _*_, _≤_, _<_};
 ghost use lib.ListN.{length};
-ghost use Rattle.format.specs.Format.{check, nothing, read};
+ghost use Rattle.format.specs.Format.{read};
 ghost use Rattle.helpers.specs.Answers.{placeOut};
 ghost use Rattle.parser.specs.States.{Widths};
 ghost use Rattle.grammar.specs.Grammar.{blockEnd, headerEnd};
@@ -82,17 +82,6 @@ fn gap(at: usize, end: usize) -> usize
     if at < end { end - at } else { 0 }
 }
 
-// The checksum stored at `end` is tested, and reading goes on at `next`.
-fn test_checksum(file: &[u8], from: usize, end: usize, next: usize) -> Place
-    requires { ⌜ (from ≤ end) × (end + 4 ≤ length (now file)) ⌝ }
-    ensures { λ r. ⌜ placeOut r ≡ read (now (file .entry)) (check (sumMatches (now (file .entry)) from end) 28 nothing) next ⌝ }
-{
-    if !checksum_matches(file, from, end) {
-        return Place::Refused(Refusal::Checksum);
-    }
-    Place::At(next)
-}
-
 // What closes a block.
 fn block_end(file: &[u8], from: usize, whole: usize, at: usize) -> Place
     requires { ⌜ from + 4 ≤ whole ⌝ }
@@ -101,7 +90,10 @@ fn block_end(file: &[u8], from: usize, whole: usize, at: usize) -> Place
     let Taken::At(next) = take(file, at, gap(at, whole)) else {
         return Place::Refused(Refusal::Short);
     };
-    test_checksum(file, from, whole - 4, next)
+    if !checksum_matches(file, from, whole - 4) {
+        return Place::Refused(Refusal::Checksum);
+    }
+    Place::At(next)
 }
 
 // What closes a block whose entries were walked up to `last`; reading resumes after its entry.
@@ -130,7 +122,10 @@ fn header_end(file: &[u8], from: usize, end: usize, at: usize) -> Place
     let Taken::At(next) = take(file, reached, 4) else {
         return Place::Refused(Refusal::Short);
     };
-    test_checksum(file, from, end, next)
+    if !checksum_matches(file, from, end) {
+        return Place::Refused(Refusal::Checksum);
+    }
+    Place::At(next)
 }
 
 // The same header, and the same limits, made anew: a struct that is handed on to another call is
