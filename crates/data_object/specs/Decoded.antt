@@ -36,7 +36,7 @@ rowsIn (stopped r n) = 0
 
 -- the records that are handed back
 abbrev pub winsIn : DataObject → Wins
-winsIn r = record { ds = r .ds; dt = r .dt; li = r .li; gi = r .gi; ai = r .ai; «data» = r .«data» }
+winsIn r = record { ds = r .ds; dt = r .dt; li = r .li; gi = r .gi; ai = r .ai; layout = r .layout }
 
 -- Over a file, the widths of offsets and lengths, an end-of-file address, a header position and a table of n words, which ends as t.
 module _ (file : List ℕ) (offsets lengths end at n : ℕ) where

@@ -7,7 +7,7 @@ use lib.ListN.{length, take, drop, replicate}
 use Rattle.format.specs.Format.{Format, found, read}
 use Rattle.format.specs.Laws.{never}
 use Rattle.records.specs.Refusals.{refusalNumber}
-use Rattle.records.specs.Defaults.{defaultDataSpace, defaultLinkInfo, defaultGroupInfo, defaultAttributeInfo, defaultDataType}
+use Rattle.records.specs.Defaults.{defaultDataSpace, defaultLinkInfo, defaultGroupInfo, defaultAttributeInfo, defaultDataType, defaultDataLayout}
 use Rattle.records.specs.declared.Refusal.{Refusal}
 use Rattle.row.specs.RowLaws.{written-read}
 use Rattle.row.specs.Rows.{rowWords, firstRows, encode}
@@ -23,7 +23,7 @@ use Rattle.grammar.specs.Walk.{Went, reached, stopped, Limits, lent}
 use Rattle.grammar.specs.WalkLaws.{first, fit-lent}
 use Rattle.grammar.specs.Filled.{Walked, grown, tell, untold, walkOn, filled-table}
 use Rattle.ohdr_info.specs.Info.{linkInfo, groupInfo, attributeInfo}
-use Rattle.ohdr_storage.specs.Storage.{dataLayout, emptyPart}
+use Rattle.ohdr_storage.specs.Storage.{dataLayout}
 use Rattle.ohdr_datatype.specs.DataTypes.{dataType, typeLevels}
 use Rattle.ohdr_dataspace.specs.DataSpaces.{dataSpace}
 use Rattle.ohdr_walk.specs.declared.Progress.{Progress}
@@ -37,7 +37,7 @@ use Rattle.data_object_header.specs.Headers.{headerFields, HeaderReading, heade
 use Rattle.data_object_header.specs.HeaderLaws.{header-accepts, unread, walked, starts-after, starts-inside, size-small, goes-on, decode-complete}
 use Rattle.data_object_winners.specs.Wins.{Wins, defaults, winsOf}
 use Rattle.data_object_winners.specs.Winners.{lastIn, winner}
-use Rattle.data_object_winners.specs.WinnerLaws.{all-bodied, Won, won, space-won, type-won, link-won, group-won, info-won, data-won}
+use Rattle.data_object_winners.specs.WinnerLaws.{all-bodied, Won, won, space-won, type-won, link-won, group-won, info-won, layout-won}
 use Rattle.data_object.specs.Decoded.{answerOut, counts, rowsIn, winsIn, decoded, Readable, Accepted, Meant, Decoded}
 use Rattle.data_object.specs.declared.Answer.{Answer}
 use Rattle.data_object.specs.declared.Answer.the-variants as answers
@@ -81,10 +81,10 @@ pub record Built (file t : List ℕ) (p : Progress) (s : State) (r : DataObject)
   pub li : r .li ≡ winner file (linkInfo s) defaultLinkInfo (lastIn t 2 (p .rows))
   pub gi : r .gi ≡ winner file groupInfo defaultGroupInfo (lastIn t 10 (p .rows))
   pub ai : r .ai ≡ winner file (attributeInfo s) defaultAttributeInfo (lastIn t 21 (p .rows))
-  pub «data» : r .«data» ≡ winner file (dataLayout s) emptyPart (lastIn t 8 (p .rows))
+  pub layout : r .layout ≡ winner file (dataLayout s) defaultDataLayout (lastIn t 8 (p .rows))
 
-pub wins≡ : {v w : Wins} → v .ds ≡ w .ds → v .dt ≡ w .dt → v .li ≡ w .li → v .gi ≡ w .gi → v .ai ≡ w .ai → v .«data» ≡ w .«data» → v ≡ w
-wins≡ a b c d e f = λ i. record { ds = a i; dt = b i; li = c i; gi = d i; ai = e i; «data» = f i }
+pub wins≡ : {v w : Wins} → v .ds ≡ w .ds → v .dt ≡ w .dt → v .li ≡ w .li → v .gi ≡ w .gi → v .ai ≡ w .ai → v .layout ≡ w .layout → v ≡ w
+wins≡ a b c d e f = λ i. record { ds = a i; dt = b i; li = c i; gi = d i; ai = e i; layout = f i }
 
 -- what a walk that was done over a table t says, which it leaves as u: its items, and what of them is told
 record Told (file : List ℕ) (s : State) (at : ℕ) (t : List ℕ) (p : Progress) (u : List ℕ) : Type 0 where
@@ -169,7 +169,7 @@ module _ (file : List ℕ) (offsets lengths end at n : ℕ) where
       records : (r : DataObject) → Built file v p s r → winsIn r ≡ winsOf (messagesOf (w .items))
       records r b =
           wins≡ (b .ds ∙ field (space-won file s) refl) (b .dt ∙ field (type-won file s) refl) (b .li ∙ field (link-won file s) refl)
-          (b .gi ∙ field (group-won file s) refl) (b .ai ∙ field (info-won file s) refl) (b .«data» ∙ field (data-won file s) refl)
+          (b .gi ∙ field (group-won file s) refl) (b .ai ∙ field (info-won file s) refl) (b .layout ∙ field (layout-won file s) refl)
 
       readable : Readable file offsets lengths end at n (p .at) (w .items)
       readable = record {

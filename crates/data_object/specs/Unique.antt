@@ -37,4 +37,4 @@ module _ (file : List ℕ) (offsets lengths end at n : ℕ) where
       let a = answer-unique (o .answer) (o′ .answer) (d .answer ∙ sym (d′ .answer)) in
       let r = d .rows ∙ sym (d′ .rows) in
       let m = meant-unique (o .answer) (o′ .answer) o o′ (d .meant) (d′ .meant) in
-      (λ i. record { answer = a i; rows = r i; ds = m .0 i .ds; dt = m .0 i .dt; li = m .0 i .li; gi = m .0 i .gi; ai = m .0 i .ai; «data» = m .0 i .«data» }, m .1)
+      (λ i. record { answer = a i; rows = r i; ds = m .0 i .ds; dt = m .0 i .dt; li = m .0 i .li; gi = m .0 i .gi; ai = m .0 i .ai; layout = m .0 i .layout }, m .1)

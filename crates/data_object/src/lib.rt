@@ -4,7 +4,7 @@ use data_object_header::FieldsRead;
 use data_object_header::header_fields;
 use data_object_winners::last_rows;
 use data_object_winners::winning_attribute_info;
-use data_object_winners::winning_data;
+use data_object_winners::winning_data_layout;
 use data_object_winners::winning_data_space;
 use data_object_winners::winning_data_type;
 use data_object_winners::winning_group_info;
@@ -19,6 +19,7 @@ use parser::FILE_LIMIT;
 use parser::NewState;
 use parser::State;
 use records::AttributeInfo;
+use records::DataLayout;
 use records::DataSpace;
 use records::DataType;
 use records::GroupInfo;
@@ -52,7 +53,7 @@ pub struct DataObject {
     pub li: LinkInfo,
     pub ai: AttributeInfo,
     pub gi: GroupInfo,
-    pub data: Part,
+    pub layout: DataLayout,
 }
 
 // A header that is refused hands no record out.
@@ -64,6 +65,7 @@ fn rejected(refusal: Refusal) -> DataObject
     let li = LinkInfo::default();
     let ai = AttributeInfo::default();
     let gi = GroupInfo::default();
+    let layout = DataLayout::default();
     DataObject {
         answer: Answer::Refused(refusal),
         rows: 0,
@@ -72,10 +74,7 @@ fn rejected(refusal: Refusal) -> DataObject
         li,
         ai,
         gi,
-        data: Part {
-            position: 0,
-            length: 0,
-        },
+        layout,
     }
 }
 
@@ -120,7 +119,7 @@ fn build_data_object_from_messages(
     let li = winning_link_info(file, table, last[2], state);
     let ai = winning_attribute_info(file, table, last[21], state);
     let gi = winning_group_info(file, table, last[10]);
-    let data = winning_data(file, table, last[8], state);
+    let layout = winning_data_layout(file, table, last[8], state);
     DataObject {
         answer: Answer::Read(progress.at, progress.entries),
         rows,
@@ -129,7 +128,7 @@ fn build_data_object_from_messages(
         li,
         ai,
         gi,
-        data,
+        layout,
     }
 }
 

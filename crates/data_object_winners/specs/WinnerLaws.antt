@@ -12,7 +12,7 @@ use borrow.Author.Tests.{eqb-true, eqb-false}
 use Rattle.format.specs.Format.{Format, done, bind, pick, Stands, found, read}
 use Rattle.format.specs.Laws.{complete}
 use Rattle.format.specs.Standing.{stands-bind}
-use Rattle.records.specs.Defaults.{defaultDataSpace, defaultLinkInfo, defaultGroupInfo, defaultAttributeInfo, defaultDataType}
+use Rattle.records.specs.Defaults.{defaultDataSpace, defaultLinkInfo, defaultGroupInfo, defaultAttributeInfo, defaultDataType, defaultDataLayout}
 use Rattle.parser.specs.declared.State.{State}
 use Rattle.grammar.specs.Message.{Kept, Message, rowOf}
 use Rattle.grammar.specs.Message as messages
@@ -25,7 +25,7 @@ use Rattle.row.specs.RowLaws.{written-read}
 use Rattle.ohdr_walk.specs.Sources.{source}
 use Rattle.data_object_header.specs.Headers.{HeaderReading}
 use Rattle.ohdr_info.specs.Info.{linkInfo, groupInfo, attributeInfo}
-use Rattle.ohdr_storage.specs.Storage.{dataLayout, fillOld, fill, filterPipeline, emptyPart}
+use Rattle.ohdr_storage.specs.Storage.{dataLayout, fillOld, fill, filterPipeline}
 use Rattle.ohdr_datatype.specs.DataTypes.{dataType, typeLevels}
 use Rattle.ohdr_dataspace.specs.DataSpaces.{dataSpace}
 use Rattle.ohdr_attribute.specs.Attributes.{attribute}
@@ -61,7 +61,7 @@ typeOf messages.nothing = 0
 typeOf (messages.dataSpace d) = 1
 typeOf (messages.linkInfo l) = 2
 typeOf (messages.dataType t) = 3
-typeOf (messages.dataLayout p) = 8
+typeOf (messages.dataLayout d) = 8
 typeOf (messages.groupInfo g) = 10
 typeOf (messages.attribute a) = 12
 typeOf (messages.attributeInfo a) = 21
@@ -159,17 +159,17 @@ module _ (file : List ℕ) (s : State) where
     li : (typeOf k ≡ 2 → ⊥) → win k w .li ≡ w .li
     gi : (typeOf k ≡ 10 → ⊥) → win k w .gi ≡ w .gi
     ai : (typeOf k ≡ 21 → ⊥) → win k w .ai ≡ w .ai
-    «data» : (typeOf k ≡ 8 → ⊥) → win k w .«data» ≡ w .«data»
+    layout : (typeOf k ≡ 8 → ⊥) → win k w .layout ≡ w .layout
 
   apart : (k : Kept) (w : Wins) → Apart k w
-  apart messages.nothing w = record { ds = λ n. refl; dt = λ n. refl; li = λ n. refl; gi = λ n. refl; ai = λ n. refl; «data» = λ n. refl }
-  apart (messages.dataSpace d) w = record { ds = λ n. absurd (n refl); dt = λ n. refl; li = λ n. refl; gi = λ n. refl; ai = λ n. refl; «data» = λ n. refl }
-  apart (messages.linkInfo l) w = record { ds = λ n. refl; dt = λ n. refl; li = λ n. absurd (n refl); gi = λ n. refl; ai = λ n. refl; «data» = λ n. refl }
-  apart (messages.dataType t) w = record { ds = λ n. refl; dt = λ n. absurd (n refl); li = λ n. refl; gi = λ n. refl; ai = λ n. refl; «data» = λ n. refl }
-  apart (messages.dataLayout p) w = record { ds = λ n. refl; dt = λ n. refl; li = λ n. refl; gi = λ n. refl; ai = λ n. refl; «data» = λ n. absurd (n refl) }
-  apart (messages.groupInfo g) w = record { ds = λ n. refl; dt = λ n. refl; li = λ n. refl; gi = λ n. absurd (n refl); ai = λ n. refl; «data» = λ n. refl }
-  apart (messages.attribute a) w = record { ds = λ n. refl; dt = λ n. refl; li = λ n. refl; gi = λ n. refl; ai = λ n. refl; «data» = λ n. refl }
-  apart (messages.attributeInfo a) w = record { ds = λ n. refl; dt = λ n. refl; li = λ n. refl; gi = λ n. refl; ai = λ n. absurd (n refl); «data» = λ n. refl }
+  apart messages.nothing w = record { ds = λ n. refl; dt = λ n. refl; li = λ n. refl; gi = λ n. refl; ai = λ n. refl; layout = λ n. refl }
+  apart (messages.dataSpace d) w = record { ds = λ n. absurd (n refl); dt = λ n. refl; li = λ n. refl; gi = λ n. refl; ai = λ n. refl; layout = λ n. refl }
+  apart (messages.linkInfo l) w = record { ds = λ n. refl; dt = λ n. refl; li = λ n. absurd (n refl); gi = λ n. refl; ai = λ n. refl; layout = λ n. refl }
+  apart (messages.dataType t) w = record { ds = λ n. refl; dt = λ n. absurd (n refl); li = λ n. refl; gi = λ n. refl; ai = λ n. refl; layout = λ n. refl }
+  apart (messages.dataLayout d) w = record { ds = λ n. refl; dt = λ n. refl; li = λ n. refl; gi = λ n. refl; ai = λ n. refl; layout = λ n. absurd (n refl) }
+  apart (messages.groupInfo g) w = record { ds = λ n. refl; dt = λ n. refl; li = λ n. refl; gi = λ n. absurd (n refl); ai = λ n. refl; layout = λ n. refl }
+  apart (messages.attribute a) w = record { ds = λ n. refl; dt = λ n. refl; li = λ n. refl; gi = λ n. refl; ai = λ n. refl; layout = λ n. refl }
+  apart (messages.attributeInfo a) w = record { ds = λ n. refl; dt = λ n. refl; li = λ n. refl; gi = λ n. refl; ai = λ n. absurd (n refl); layout = λ n. refl }
 
   pub space-won : Won 1 (dataSpace s) defaultDataSpace (λ w. w .ds)
   unfolding body plainBody
@@ -191,6 +191,6 @@ module _ (file : List ℕ) (s : State) where
   unfolding body plainBody
   info-won = record { here = by-body (attributeInfo s) messages.attributeInfo 21 defaultAttributeInfo (λ w. w .ai) refl (λ a w. refl); apart = λ k n w. apart k w .ai n; some = λ e. omega arith }
 
-  pub data-won : Won 8 (dataLayout s) emptyPart (λ w. w .«data»)
+  pub layout-won : Won 8 (dataLayout s) defaultDataLayout (λ w. w .layout)
   unfolding body layoutBody
-  data-won = record { here = by-body (dataLayout s) messages.dataLayout 8 emptyPart (λ w. w .«data») refl (λ a w. refl); apart = λ k n w. apart k w .«data» n; some = λ e. omega arith }
+  layout-won = record { here = by-body (dataLayout s) messages.dataLayout 8 defaultDataLayout (λ w. w .layout) refl (λ a w. refl); apart = λ k n w. apart k w .layout n; some = λ e. omega arith }

@@ -9,25 +9,25 @@ use ohdr_info::LinkInfoRead;
 use ohdr_info::message_attribute_info;
 use ohdr_info::message_group_info;
 use ohdr_info::message_link_info;
-use ohdr_storage::PartRead;
+use ohdr_storage::DataLayoutRead;
 use ohdr_storage::message_data_layout;
 use parser::State;
 use records::AttributeInfo;
+use records::DataLayout;
 use records::DataSpace;
 use records::DataType;
 use records::GroupInfo;
 use records::LinkInfo;
-use records::Part;
 use row::kind_at;
 use row::row_at;
 ghost use mathlib.Core.Path.{_≡_};
 ghost use Prim.Native.Nat.{_/_, _≤_};
 ghost use lib.ListN.{length};
 ghost use Rattle.row.specs.Rows.{rowWords};
-ghost use Rattle.records.specs.Defaults.{defaultDataSpace, defaultLinkInfo, defaultGroupInfo, defaultAttributeInfo, defaultDataType};
+ghost use Rattle.records.specs.Defaults.{defaultDataSpace, defaultLinkInfo, defaultGroupInfo, defaultAttributeInfo, defaultDataType, defaultDataLayout};
 ghost use Rattle.parser.specs.States.{Widths};
 ghost use Rattle.ohdr_info.specs.Info.{linkInfo, groupInfo, attributeInfo};
-ghost use Rattle.ohdr_storage.specs.Storage.{dataLayout, emptyPart};
+ghost use Rattle.ohdr_storage.specs.Storage.{dataLayout};
 ghost use Rattle.ohdr_datatype.specs.DataTypes.{dataType};
 ghost use Rattle.ohdr_dataspace.specs.DataSpaces.{dataSpace};
 ghost use Rattle.data_object_winners.specs.Winners.{lastRows, bodyOf, winner};
@@ -130,22 +130,15 @@ pub fn winning_attribute_info(file: &[u8], table: &[u64], row: usize, state: Sta
     ai
 }
 
-// The data of the last layout, as a part of the file; none where there is none.
-pub fn winning_data(file: &[u8], table: &[u64], row: usize, state: State) -> Part
+pub fn winning_data_layout(file: &[u8], table: &[u64], row: usize, state: State) -> DataLayout
     requires { ⌜ Widths state × (row ≤ length (now table) / rowWords) ⌝ }
-    ensures { λ r. ⌜ r ≡ winner (now (file .entry)) (dataLayout state) emptyPart (bodyOf (now (table .entry)) row) ⌝ }
+    ensures { λ r. ⌜ r ≡ winner (now (file .entry)) (dataLayout state) defaultDataLayout (bodyOf (now (table .entry)) row) ⌝ }
 {
     let LastBody::At(body) = last_body(table, row) else {
-        return Part {
-            position: 0,
-            length: 0,
-        };
+        return DataLayout::default();
     };
-    let PartRead::Read(part, _) = message_data_layout(file, body, state) else {
-        return Part {
-            position: 0,
-            length: 0,
-        };
+    let DataLayoutRead::Read(layout, _) = message_data_layout(file, body, state) else {
+        return DataLayout::default();
     };
-    part
+    layout
 }

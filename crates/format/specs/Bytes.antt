@@ -1,5 +1,5 @@
 -- Numbers, names and texts in a file, which is a list of bytes. Assumes nothing: these are definitions.
-use Prim.Native.Nat.{ℕ, zero, suc, _+_, _-_, _*_, _%_, _≤_, _<_}
+use Prim.Native.Nat.{ℕ, zero, suc, _+_, _-_, _*_, _^_, _%_, _≤_, _<_}
 use mathlib.Core.Path.{_≡_}
 use mathlib.Core.Logic.{_⊎_}
 use mathlib.Core.Bool.{true, false}
@@ -11,6 +11,10 @@ use lib.Dec.{eqb}
 unfoldable pub le : List ℕ → ℕ → ℕ → ℕ
 le s p zero = zero
 le s p (suc w) = getD s p 0 + 256 * le s (p + 1) w
+
+-- all ones in w bytes
+abbrev pub allOnes : ℕ → ℕ
+allOnes w = 2 ^ (8 * w) - 1
 
 -- a name stands at p and is n bytes long: none of them is zero, and it is ended by a zero or by its limit
 pub record Named (s : List ℕ) (p limit n : ℕ) : Type 0 where

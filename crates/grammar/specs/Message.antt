@@ -1,6 +1,5 @@
 -- What stands in an entry: a message with the figures of its row, or a continuation. Assumes nothing: these are definitions.
 use Prim.Native.Nat.{ℕ}
-use Rattle.records.specs.declared.Part.{Part}
 use Rattle.records.specs.declared.OptionPart.{OptionPart}
 use Rattle.records.specs.declared.OptionPart.the-variants as parts
 use Rattle.records.specs.declared.DataSpace.{DataSpace}
@@ -8,6 +7,7 @@ use Rattle.records.specs.declared.LinkInfo.{LinkInfo}
 use Rattle.records.specs.declared.GroupInfo.{GroupInfo}
 use Rattle.records.specs.declared.AttributeInfo.{AttributeInfo}
 use Rattle.records.specs.declared.DataType.{DataType}
+use Rattle.records.specs.declared.DataLayout.{DataLayout}
 use Rattle.records.specs.declared.Attribute.{Attribute}
 use Rattle.row.specs.declared.Row.{Row}
 
@@ -17,7 +17,7 @@ pub data Kept : Type 0 where
   dataSpace : DataSpace → Kept
   linkInfo : LinkInfo → Kept
   dataType : DataType → Kept
-  dataLayout : Part → Kept
+  dataLayout : DataLayout → Kept
   groupInfo : GroupInfo → Kept
   attribute : Attribute → Kept
   attributeInfo : AttributeInfo → Kept
@@ -41,7 +41,7 @@ nameOf nothing = parts.None
 nameOf (dataSpace d) = parts.None
 nameOf (linkInfo l) = parts.None
 nameOf (dataType t) = parts.None
-nameOf (dataLayout p) = parts.None
+nameOf (dataLayout l) = parts.None
 nameOf (groupInfo g) = parts.None
 nameOf (attribute a) = parts.Some (a .name)
 nameOf (attributeInfo a) = parts.None
@@ -52,7 +52,7 @@ partOf nothing = parts.None
 partOf (dataSpace d) = parts.None
 partOf (linkInfo l) = parts.None
 partOf (dataType t) = parts.None
-partOf (dataLayout p) = parts.Some p
+partOf (dataLayout l) = parts.Some (l .«data»)
 partOf (groupInfo g) = parts.None
 partOf (attribute a) = a .value
 partOf (attributeInfo a) = parts.None

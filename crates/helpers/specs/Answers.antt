@@ -3,6 +3,7 @@ use Prim.Native.Nat.{ℕ}
 use lib.Dec.{leb}
 use Rattle.format.specs.Format.{Format, done, number, check, Out, found, refused}
 use Rattle.records.specs.Refusals.{refusalNumber}
+use Rattle.records.specs.declared.Address.{Address}
 use Rattle.helpers.specs.declared.ReadU8.{ReadU8}
 use Rattle.helpers.specs.declared.ReadU8.the-variants as reads8
 use Rattle.helpers.specs.declared.ReadU16.{ReadU16}
@@ -13,6 +14,8 @@ use Rattle.helpers.specs.declared.ReadU64.{ReadU64}
 use Rattle.helpers.specs.declared.ReadU64.the-variants as reads64
 use Rattle.helpers.specs.declared.ReadVarint.{ReadVarint}
 use Rattle.helpers.specs.declared.ReadVarint.the-variants as varints
+use Rattle.helpers.specs.declared.ReadAddress.{ReadAddress}
+use Rattle.helpers.specs.declared.ReadAddress.the-variants as addresses
 use Rattle.helpers.specs.declared.Taken.{Taken}
 use Rattle.helpers.specs.declared.Taken.the-variants as takes
 use Rattle.helpers.specs.declared.Place.{Place}
@@ -39,6 +42,10 @@ u64Out reads64.Short = refused 3
 abbrev pub varintOut : ReadVarint → Out ℕ
 varintOut (varints.Value v q) = found v q
 varintOut (varints.Refused r) = refused (refusalNumber r)
+
+abbrev pub addressOut : ReadAddress → Out Address
+addressOut (addresses.Value a q) = found a q
+addressOut addresses.Short = refused 3
 
 abbrev pub takenOut : Taken → Out (Unit {0})
 takenOut (takes.At q) = found tt q

@@ -1,14 +1,16 @@
 // One field of a file: a little-endian number, bytes passed over, a zero-ended name, a text. Each
 // reader takes the file and a position, and answers the field with the position after it.
+use records::Address;
 use records::Refusal;
 ghost use mathlib.Core.Path.{_≡_};
 ghost use Prim.Native.Nat.{_+_, _≤_, _<_};
 ghost use lib.ListN.{length};
 ghost use lib.Dec.{leb};
-ghost use Rattle.format.specs.Bytes.{le, nameLength, textLength, toMultipleOf8};
+ghost use Rattle.format.specs.Bytes.{le, allOnes, nameLength, textLength, toMultipleOf8};
 ghost use Rattle.format.specs.Format.{done, number, skip, name, text, nothing, read, signature as signed};
 ghost use Rattle.records.specs.Refusals.{refusalNumber};
-ghost use Rattle.helpers.specs.Answers.{u8Out, u16Out, u32Out, u64Out, varintOut, takenOut, placeOut, lengthOut, sized};
+ghost use Rattle.helpers.specs.Answers.{u8Out, u16Out, u32Out, u64Out, varintOut, addressOut, takenOut, placeOut, lengthOut, sized};
+ghost use Rattle.helpers.specs.Addresses.{address as addressFormat};
 
 // A number of a fixed width, and the position after it; or a field that leaves the file.
 pub enum ReadU8 {
@@ -35,6 +37,12 @@ pub enum ReadU64 {
 pub enum ReadVarint {
     Value(u64, usize),
     Refused(Refusal),
+}
+
+// An address of a width that is given.
+pub enum ReadAddress {
+    Value(Address, usize),
+    Short,
 }
 
 // The position after bytes that are passed over.
@@ -201,6 +209,38 @@ pub fn varint_size(file: &[u8], at: usize, size: usize) -> ReadVarint
         return ReadVarint::Refused(Refusal::Short);
     };
     ReadVarint::Value(value, next)
+}
+
+// All ones in `width` bytes.
+pub fn all_ones(width: usize) -> u64
+    requires { ⌜ width ≤ 8 ⌝ }
+    ensures { λ r. ⌜ r ≡ allOnes width ⌝ }
+{
+    match width {
+        0 => 0,
+        1 => 0xff,
+        2 => 0xffff,
+        3 => 0xff_ffff,
+        4 => 0xffff_ffff,
+        5 => 0xff_ffff_ffff,
+        6 => 0xffff_ffff_ffff,
+        7 => 0xff_ffff_ffff_ffff,
+        _ => 0xffff_ffff_ffff_ffff,
+    }
+}
+
+// An address of `size` bytes, where `size` is known to be a width.
+pub fn address(file: &[u8], at: usize, size: usize) -> ReadAddress
+    requires { ⌜ size ≤ 8 ⌝ }
+    ensures { λ r. ⌜ addressOut r ≡ read (now (file .entry)) (addressFormat size) at ⌝ }
+{
+    let ReadU64::Value(value, next) = varint(file, at, size) else {
+        return ReadAddress::Short;
+    };
+    if value == all_ones(size) {
+        return ReadAddress::Value(Address::Undefined, next);
+    }
+    ReadAddress::Value(Address::Number(value), next)
 }
 
 // `count` bytes are passed over.

@@ -8,13 +8,13 @@ use lib.Dec.{eqb, leb}
 use lib.ListN.{replicate, set, getD}
 use borrow.Author.Tests.{leb-true}
 use Rattle.format.specs.Bits.{bit}
-use Rattle.format.specs.Bytes.{le}
+use Rattle.format.specs.Bytes.{le, allOnes}
 use Rattle.format.specs.Format.{done, bind, Stands}
 use Rattle.records.specs.declared.Dimensions.{Dimensions}
 use Rattle.records.specs.declared.DataSpace.{DataSpace}
 use Rattle.parser.specs.declared.State.{State}
 use Rattle.ohdr_dataspace.specs.declared.DataSpaceHeader.{DataSpaceHeader}
-use Rattle.ohdr_dataspace.specs.DataSpaces.{unlimited, dimension, dimensionsFrom, dimensions, maximumSizes, dataSpaceOf, dataSpaceHeader, dataSpaceSizes, dataSpace}
+use Rattle.ohdr_dataspace.specs.DataSpaces.{dimension, dimensionsFrom, dimensions, maximumSizes, dataSpaceOf, dataSpaceHeader, dataSpaceSizes, dataSpace}
 use Rattle.format.specs.Standing.{stands-bind, stands-check}
 use Rattle.ohdr_dataspace.specs.Facts.{header-bound}
 
@@ -45,10 +45,10 @@ module _ (file : List ℕ) (w : ℕ) where
   unfolding dimension
   size-small p q x h =
       let v = le file p w in
-      let c = stands-check file (leb v 1000000 || (false && eqb v (unlimited w))) 9 (done v) (p + w) q x (h .1) in
+      let c = stands-check file (leb v 1000000 || (false && eqb v (allOnes w))) 9 (done v) (p + w) q x (h .1) in
       rw (← c .1 .1) (limit (leb v 1000000) refl (c .0))
     where
-      limit : (t : Bool) → leb (le file p w) 1000000 ≡ t → (t || (false && eqb (le file p w) (unlimited w))) ≡ true → le file p w ≤ 1000000
+      limit : (t : Bool) → leb (le file p w) 1000000 ≡ t → (t || (false && eqb (le file p w) (allOnes w))) ≡ true → le file p w ≤ 1000000
       limit true e d = leb-true (le file p w) 1000000 e
       limit false e d = leb-true (le file p w) 1000000 (e ∙ d)
 

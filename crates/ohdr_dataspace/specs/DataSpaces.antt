@@ -1,10 +1,11 @@
 -- IV.A.2.b, the dataspace message, versions 1 and 2. Assumes nothing: these are definitions.
-use Prim.Native.Nat.{ℕ, zero, suc, _+_, _-_, _*_, _^_}
+use Prim.Native.Nat.{ℕ, zero, suc, _+_, _-_, _*_}
 use mathlib.Core.Bool.{Bool, true, false, _&&_, _||_, not}
 use mathlib.Core.List.{List, [], _∷_}
 use lib.ListN.{replicate, set, take}
 use lib.Dec.{eqb, leb}
 use Rattle.format.specs.Bits.{bit}
+use Rattle.format.specs.Bytes.{allOnes}
 use Rattle.format.specs.Format.{Format, done, number, skip, bind, check, pick}
 use Rattle.records.specs.Defaults.{noDimensions}
 use Rattle.records.specs.declared.OptionU8.{OptionU8}
@@ -14,15 +15,11 @@ use Rattle.records.specs.declared.DataSpace.{DataSpace}
 use Rattle.parser.specs.declared.State.{State}
 use Rattle.ohdr_dataspace.specs.declared.DataSpaceHeader.{DataSpaceHeader}
 
--- all ones in w bytes
-abbrev pub unlimited : ℕ → ℕ
-unlimited w = 2 ^ (8 * w) - 1
-
--- one size in w bytes: at most 1,000,000; a maximum size may also be unlimited
+-- one size in w bytes: at most 1,000,000; a maximum size may also be unlimited, which is all ones
 unfoldable pub dimension : ℕ → Bool → Format ℕ
 dimension w maximum =
     number w (λ size.
-    check (leb size 1000000 || (maximum && eqb size (unlimited w))) 9 (
+    check (leb size 1000000 || (maximum && eqb size (allOnes w))) 9 (
     done size))
 
 -- n sizes, which go into the list from place i on

@@ -4,6 +4,7 @@ use helpers::Place;
 use helpers::ReadU8;
 use helpers::ReadU64;
 use helpers::Taken;
+use helpers::all_ones;
 use helpers::le_u8;
 use helpers::take;
 use helpers::varint;
@@ -20,7 +21,7 @@ ghost use Rattle.format.specs.Bits.{bit};
 ghost use Rattle.format.specs.Format.{read, refused};
 ghost use Rattle.records.specs.Refusals.{refusalNumber};
 ghost use Rattle.parser.specs.States.{Widths};
-ghost use Rattle.ohdr_dataspace.specs.DataSpaces.{unlimited as allOnes, dimension as dimensionFormat, dimensions as dimensionsFormat, kind as kindFormat, maximumSizes, dataSpaceHeader, dataSpaceSizes, dataSpace, elements as elementsOf};
+ghost use Rattle.ohdr_dataspace.specs.DataSpaces.{dimension as dimensionFormat, dimensions as dimensionsFormat, kind as kindFormat, maximumSizes, dataSpaceHeader, dataSpaceSizes, dataSpace, elements as elementsOf};
 ghost use Rattle.ohdr_dataspace.specs.Answers.{dimensionOut, dimensionsOut, kindOut, headerOut, Defaulted, dataSpaceOut, countOf};
 
 // One size, and the position after it.
@@ -63,24 +64,6 @@ pub enum ElementCount {
     TooMany,
 }
 
-// All ones in `width` bytes.
-fn unlimited(width: usize) -> u64
-    requires { ⌜ width ≤ 8 ⌝ }
-    ensures { λ r. ⌜ r ≡ allOnes width ⌝ }
-{
-    match width {
-        0 => 0,
-        1 => 0xff,
-        2 => 0xffff,
-        3 => 0xff_ffff,
-        4 => 0xffff_ffff,
-        5 => 0xff_ffff_ffff,
-        6 => 0xffff_ffff_ffff,
-        7 => 0xff_ffff_ffff_ffff,
-        _ => 0xffff_ffff_ffff_ffff,
-    }
-}
-
 // One size; a maximum size may be unlimited.
 fn dimension(file: &[u8], at: usize, width: usize, maximum: bool) -> DimensionRead
     requires { ⌜ width ≤ 8 ⌝ }
@@ -95,7 +78,7 @@ fn dimension(file: &[u8], at: usize, width: usize, maximum: bool) -> DimensionRe
     if !maximum {
         return DimensionRead::Refused(Refusal::DataSpace);
     }
-    if size == unlimited(width) {
+    if size == all_ones(width) {
         DimensionRead::Value(size, next)
     } else {
         DimensionRead::Refused(Refusal::DataSpace)

@@ -16,6 +16,7 @@ use Rattle.format.specs.Covers.{inside}
 use Rattle.format.specs.Standing.{stands-bind, stands-check}
 use Rattle.grammar.specs.Message.{Message, Held, message, continuation, rowOf}
 use Rattle.row.specs.declared.Row.{Row}
+use Rattle.helpers.specs.Addresses.{definedAddress}
 use Rattle.parser.specs.declared.State.{State}
 use Rattle.parser.specs.States.{addressValid}
 use Rattle.ohdr_entry.specs.declared.Continuation.{Continuation}
@@ -50,9 +51,10 @@ module _ (file : List ℕ) (s : State) where
   range : (p q : ℕ) (c : Continuation) → Stands file (info.continuation s) p q c → Continued s (c .offset) (c .length)
   unfolding info.continuation
   range p q c h =
-      let o = le file p (s .«size_of_offsets») in
-      let a = stands-check file (addressValid s o) 19 _ _ q c (h .1) in
-      let l = le file (p + s .«size_of_offsets») (s .«size_of_lengths») in
+      let w = stands-bind file (definedAddress (s .«size_of_offsets») 19) _ p q c h in
+      let o = w .1 in
+      let a = stands-check file (addressValid s o) 19 _ _ q c (w .3) in
+      let l = le file (w .0) (s .«size_of_lengths») in
       let b = stands-check file (leb 8 l && leb (o + l) (s .«end_of_file_address»)) 19 _ _ q c (a .1 .1) in
       let eo : o ≡ c .offset = ap (λ (x : Continuation). x .offset) (b .1 .1) in
       let el : l ≡ c .length = ap (λ (x : Continuation). x .length) (b .1 .1) in

@@ -35,7 +35,7 @@ plainBody s type =
 
 -- a layout has a part, an attribute a name and perhaps a part
 unfoldable pub layoutBody : State → Format Kept
-layoutBody s = bind (dataLayout s) (λ p. done (messages.dataLayout p))
+layoutBody s = bind (dataLayout s) (λ l. done (messages.dataLayout l))
 
 unfoldable pub attributeBody : State → Format Kept
 attributeBody s = bind (attribute s) (λ a. done (messages.attribute a))

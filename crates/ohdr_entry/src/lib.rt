@@ -1,10 +1,12 @@
 // An entry of an object header by itself (ohdr_message.rs, message_entry and message_kind): its
 // prefix, its body by its type, and the rest of its size.
 use helpers::Place;
+use helpers::ReadAddress;
 use helpers::ReadU8;
 use helpers::ReadU16;
 use helpers::ReadU64;
 use helpers::Taken;
+use helpers::address;
 use helpers::le_u8;
 use helpers::le_u16;
 use helpers::take;
@@ -20,12 +22,13 @@ use ohdr_info::LinkInfoRead;
 use ohdr_info::message_attribute_info;
 use ohdr_info::message_group_info;
 use ohdr_info::message_link_info;
-use ohdr_storage::PartRead;
+use ohdr_storage::DataLayoutRead;
 use ohdr_storage::message_data_fill;
 use ohdr_storage::message_data_fill_old;
 use ohdr_storage::message_data_layout;
 use ohdr_storage::message_filter_pipeline;
 use parser::State;
+use records::Address;
 use records::OptionPart;
 use records::Refusal;
 use row::Row;
@@ -186,14 +189,17 @@ fn body_data_layout(file: &[u8], at: usize, state: State) -> BodyRead
     ensures { λ r. ⌜ bodyOut r ≡ figuresOf (read (now (file .entry)) (layoutBody state) at) ⌝ }
 {
     match message_data_layout(file, at, state) {
-        PartRead::Read(part, next) => BodyRead::Read(
-            Figures {
-                name: OptionPart::None,
-                part: OptionPart::Some(part),
-            },
-            next,
-        ),
-        PartRead::Refused(r) => BodyRead::Refused(r),
+        DataLayoutRead::Read(layout, next) => {
+            let data = layout.data;
+            BodyRead::Read(
+                Figures {
+                    name: OptionPart::None,
+                    part: OptionPart::Some(data),
+                },
+                next,
+            )
+        }
+        DataLayoutRead::Refused(r) => BodyRead::Refused(r),
     }
 }
 
@@ -255,6 +261,7 @@ fn close_entry(file: &[u8], body_at: usize, size: u16, used: usize) -> Taken
 }
 
 // The offset is tested before the length is read; their sum must not pass the end-of-file address.
+// At an undefined offset no block is, however large that address.
 pub fn message_continuation(file: &[u8], at: usize, state: State) -> ContinuationRead
     requires { ⌜ Widths state ⌝ }
     ensures { λ r. ⌜ continuationOut r ≡ read (now (file .entry)) (continuation state) at ⌝ }
@@ -262,8 +269,11 @@ pub fn message_continuation(file: &[u8], at: usize, state: State) -> Continuatio
     let offsets = state.size_of_offsets;
     let lengths = state.size_of_lengths;
     let end = state.end_of_file_address;
-    let ReadU64::Value(offset, length_at) = varint(file, at, offsets) else {
+    let ReadAddress::Value(address, length_at) = address(file, at, offsets) else {
         return ContinuationRead::Refused(Refusal::Short);
+    };
+    let Address::Number(offset) = address else {
+        return ContinuationRead::Refused(Refusal::ContinuationRange);
     };
     if !state.is_address_valid(offset) {
         return ContinuationRead::Refused(Refusal::ContinuationRange);

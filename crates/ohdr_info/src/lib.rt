@@ -1,24 +1,28 @@
 // The messages that describe an object's links and attributes: link info, group info, attribute info
 // (ohdr_message.rs).
+use helpers::ReadAddress;
 use helpers::ReadU8;
 use helpers::ReadU16;
 use helpers::ReadU64;
+use helpers::address;
 use helpers::le_u8;
 use helpers::le_u16;
-use helpers::varint;
+use helpers::le_u64;
 use parser::State;
+use records::Address;
 use records::AttributeInfo;
 use records::GroupInfo;
 use records::LinkInfo;
+use records::OptionAddress;
 use records::OptionU16;
 use records::OptionU64;
 use records::Refusal;
 ghost use mathlib.Core.Path.{_≡_};
 ghost use Prim.Native.Nat.{_≤_};
 ghost use Rattle.format.specs.Format.{read};
-ghost use Rattle.helpers.specs.Answers.{u16Out, u64Out};
+ghost use Rattle.helpers.specs.Answers.{u16Out, u64Out, addressOut};
 ghost use Rattle.parser.specs.States.{Widths};
-ghost use Rattle.ohdr_info.specs.Info.{cond, some16, some64, linkInfo, groupInfo, attributeInfo};
+ghost use Rattle.ohdr_info.specs.Info.{cond, condAddress, some16, some64, someAddress, linkInfo, groupInfo, attributeInfo};
 ghost use Rattle.ohdr_info.specs.Answers.{linkInfoOut, groupInfoOut, attributeInfoOut};
 
 pub enum LinkInfoRead {
@@ -47,15 +51,26 @@ fn cond_u16(file: &[u8], at: usize, present: bool) -> ReadU16
     }
 }
 
-// A number of `size` bytes where it is present, and else zero.
-fn cond_varint(file: &[u8], at: usize, present: bool, size: usize) -> ReadU64
-    requires { ⌜ size ≤ 8 ⌝ }
-    ensures { λ r. ⌜ u64Out r ≡ read (now (file .entry)) (cond present size) at ⌝ }
+// A number of eight bytes where it is present, and else zero.
+fn cond_u64(file: &[u8], at: usize, present: bool) -> ReadU64
+    ensures { λ r. ⌜ u64Out r ≡ read (now (file .entry)) (cond present 8) at ⌝ }
 {
     if present {
-        varint(file, at, size)
+        le_u64(file, at)
     } else {
         ReadU64::Value(0, at)
+    }
+}
+
+// An address of `size` bytes where it is present, and else zero.
+fn cond_address(file: &[u8], at: usize, present: bool, size: usize) -> ReadAddress
+    requires { ⌜ size ≤ 8 ⌝ }
+    ensures { λ r. ⌜ addressOut r ≡ read (now (file .entry)) (condAddress present size) at ⌝ }
+{
+    if present {
+        address(file, at, size)
+    } else {
+        ReadAddress::Value(Address::Number(0), at)
     }
 }
 
@@ -79,6 +94,16 @@ fn some_u64(present: bool, value: u64) -> OptionU64
     }
 }
 
+fn some_address(present: bool, value: Address) -> OptionAddress
+    ensures { λ r. ⌜ r ≡ someAddress present value ⌝ }
+{
+    if present {
+        OptionAddress::Some(value)
+    } else {
+        OptionAddress::None
+    }
+}
+
 pub fn message_link_info(file: &[u8], at: usize, state: State) -> LinkInfoRead
     requires { ⌜ Widths state ⌝ }
     ensures { λ r. ⌜ linkInfoOut r ≡ read (now (file .entry)) (linkInfo state) at ⌝ }
@@ -95,16 +120,16 @@ pub fn message_link_info(file: &[u8], at: usize, state: State) -> LinkInfoRead
     };
     let tracked = flags & 1 != 0;
     let indexed = flags & 2 != 0;
-    let ReadU64::Value(index, heap_at) = cond_varint(file, index_at, tracked, 8) else {
+    let ReadU64::Value(index, heap_at) = cond_u64(file, index_at, tracked) else {
         return LinkInfoRead::Refused(Refusal::Short);
     };
-    let ReadU64::Value(heap, names_at) = varint(file, heap_at, width) else {
+    let ReadAddress::Value(heap, names_at) = address(file, heap_at, width) else {
         return LinkInfoRead::Refused(Refusal::Short);
     };
-    let ReadU64::Value(names, order_at) = varint(file, names_at, width) else {
+    let ReadAddress::Value(names, order_at) = address(file, names_at, width) else {
         return LinkInfoRead::Refused(Refusal::Short);
     };
-    let ReadU64::Value(order, next) = cond_varint(file, order_at, indexed, width) else {
+    let ReadAddress::Value(order, next) = cond_address(file, order_at, indexed, width) else {
         return LinkInfoRead::Refused(Refusal::Short);
     };
     LinkInfoRead::Read(
@@ -113,7 +138,7 @@ pub fn message_link_info(file: &[u8], at: usize, state: State) -> LinkInfoRead
             maximum_creation_index: some_u64(tracked, index),
             fractal_heap_address: heap,
             address_btree_index: names,
-            address_btree_order: some_u64(indexed, order),
+            address_btree_order: some_address(indexed, order),
         },
         next,
     )
@@ -176,13 +201,13 @@ pub fn message_attribute_info(file: &[u8], at: usize, state: State) -> Attribute
     let ReadU16::Value(index, heap_at) = cond_u16(file, index_at, tracked) else {
         return AttributeInfoRead::Refused(Refusal::Short);
     };
-    let ReadU64::Value(heap, names_at) = varint(file, heap_at, width) else {
+    let ReadAddress::Value(heap, names_at) = address(file, heap_at, width) else {
         return AttributeInfoRead::Refused(Refusal::Short);
     };
-    let ReadU64::Value(names, order_at) = varint(file, names_at, width) else {
+    let ReadAddress::Value(names, order_at) = address(file, names_at, width) else {
         return AttributeInfoRead::Refused(Refusal::Short);
     };
-    let ReadU64::Value(order, next) = cond_varint(file, order_at, indexed, width) else {
+    let ReadAddress::Value(order, next) = cond_address(file, order_at, indexed, width) else {
         return AttributeInfoRead::Refused(Refusal::Short);
     };
     AttributeInfoRead::Read(

@@ -4,7 +4,13 @@ use mathlib.Core.Bool.{_||_}
 use lib.Dec.{eqb, leb, ltb}
 use Rattle.format.specs.Bits.{bit}
 use Rattle.format.specs.Format.{Format, done, refuse, number, skip, bytes, there, bind, times, check, pick, nothing}
+use Rattle.records.specs.declared.Address.{Address}
+use Rattle.records.specs.declared.Address.the-variants as addresses
+use Rattle.records.specs.declared.OptionAddress.the-variants as optionAddresses
 use Rattle.records.specs.declared.Part.{Part}
+use Rattle.records.specs.declared.DataLayout.{DataLayout}
+use Rattle.records.specs.Defaults.{emptyPart}
+use Rattle.helpers.specs.Addresses.{address}
 use Rattle.parser.specs.declared.State.{State}
 use Rattle.parser.specs.States.{addressValid}
 
@@ -38,29 +44,32 @@ fill =
     pick (eqb version 3) fill3 (
     refuse 12)))
 
--- no bytes at all
-abbrev pub emptyPart : Part
-emptyPart = record { position = 0; length = 0 }
-
 -- the bytes from an address on; the empty part where the size is 0, whatever the address
 abbrev pub contiguousPart : ℕ → ℕ → Part
 contiguousPart address size = pick (eqb size 0) emptyPart (record { position = address; length = size })
 
 -- IV.A.2.i, compact storage: its raw data are passed over
-unfoldable pub compact : Format Part
-compact = number 2 (λ size. skip size (done emptyPart))
+unfoldable pub compact : Format DataLayout
+compact = number 2 (λ size. skip size (done {A = DataLayout} (record { address = optionAddresses.None; «data» = emptyPart })))
 
--- contiguous storage: the raw data are bytes of the file where the address lies between 0 and end-of-file
-unfoldable pub contiguous : State → Format Part
+-- the raw data are bytes of the file where the address is a number between 0 and end-of-file
+unfoldable pub rawData : State → ℕ → Address → Format Part
+rawData s size addresses.Undefined = done emptyPart
+rawData s size (addresses.Number address) =
+    pick (addressValid s address) (there address (bytes size nothing) (λ _. done (contiguousPart address size))) (
+    done emptyPart)
+
+-- contiguous storage
+unfoldable pub contiguous : State → Format DataLayout
 contiguous s =
-    number (s .«size_of_offsets») (λ address.
+    bind (address (s .«size_of_offsets»)) (λ address.
     number (s .«size_of_lengths») (λ size.
     check (ltb size 268435456) 13 (
-    pick (addressValid s address) (there address (bytes size nothing) (λ _. done (contiguousPart address size))) (
-    done emptyPart))))
+    bind (rawData s size address) (λ raw-data.
+    done {A = DataLayout} (record { address = optionAddresses.Some address; «data» = raw-data })))))
 
 -- IV.A.2.i, data layout, version 3: compact (0) and contiguous (1) storage; chunked (2) is refused by its own number
-unfoldable pub dataLayout : State → Format Part
+unfoldable pub dataLayout : State → Format DataLayout
 dataLayout s =
     number 1 (λ version.
     check (eqb version 3) 13 (

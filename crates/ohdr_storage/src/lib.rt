@@ -1,17 +1,22 @@
 // The messages on how data are stored: fill value old and new, data layout, filter pipeline
 // (ohdr_message.rs).
 use helpers::Place;
+use helpers::ReadAddress;
 use helpers::ReadU8;
 use helpers::ReadU16;
 use helpers::ReadU32;
 use helpers::ReadU64;
 use helpers::Taken;
+use helpers::address;
 use helpers::le_u8;
 use helpers::le_u16;
 use helpers::le_u32;
 use helpers::take;
 use helpers::varint;
 use parser::State;
+use records::Address;
+use records::DataLayout;
+use records::OptionAddress;
 use records::Part;
 use records::Refusal;
 ghost use mathlib.Core.Path.{_≡_};
@@ -19,12 +24,17 @@ ghost use lib.ListN.{take as takeList};
 ghost use Rattle.format.specs.Format.{read, times, bytes, nothing};
 ghost use Rattle.helpers.specs.Answers.{placeOut, takenOut};
 ghost use Rattle.parser.specs.States.{Widths};
-ghost use Rattle.ohdr_storage.specs.Storage.{fillOld, fill12, fill3, fill, compact, contiguous, dataLayout, contiguousPart, filter1, filter2, filterOf, reserved, filterPipeline};
-ghost use Rattle.ohdr_storage.specs.Answers.{partOut};
+ghost use Rattle.ohdr_storage.specs.Storage.{fillOld, fill12, fill3, fill, compact, contiguous, contiguousPart, rawData, dataLayout, filter1, filter2, filterOf, reserved, filterPipeline};
+ghost use Rattle.ohdr_storage.specs.Answers.{partOut, layoutOut};
 
-// A layout's data as bytes of the file, and the position after its fields.
+// Data as bytes of the file, and the position after the fields that lead to them.
 pub enum PartRead {
     Read(Part, usize),
+    Refused(Refusal),
+}
+
+pub enum DataLayoutRead {
+    Read(DataLayout, usize),
     Refused(Refusal),
 }
 
@@ -96,22 +106,23 @@ pub fn message_data_fill(file: &[u8], at: usize) -> Place
 }
 
 // Compact storage, after the class: its data are passed over.
-fn layout_compact(file: &[u8], at: usize) -> PartRead
-    ensures { λ r. ⌜ partOut r ≡ read (now (file .entry)) compact at ⌝ }
+fn layout_compact(file: &[u8], at: usize) -> DataLayoutRead
+    ensures { λ r. ⌜ layoutOut r ≡ read (now (file .entry)) compact at ⌝ }
 {
     let ReadU16::Value(size, data_at) = le_u16(file, at) else {
-        return PartRead::Refused(Refusal::Short);
+        return DataLayoutRead::Refused(Refusal::Short);
     };
     let Taken::At(next) = take(file, data_at, size as usize) else {
-        return PartRead::Refused(Refusal::Short);
+        return DataLayoutRead::Refused(Refusal::Short);
     };
-    PartRead::Read(
-        Part {
+    let layout = DataLayout {
+        address: OptionAddress::None,
+        data: Part {
             position: 0,
             length: 0,
         },
-        next,
-    )
+    };
+    DataLayoutRead::Read(layout, next)
 }
 
 // The first `size` bytes of what is lent, as a part of it; all of them where there are fewer.
@@ -156,56 +167,73 @@ fn part_of(address: usize, size: usize) -> Part
     }
 }
 
+// The data from an address on; none where the address is undefined or lies outside the file. No
+// field is read.
+fn raw_data(file: &[u8], at: usize, state: State, address: Address, size: usize) -> PartRead
+    ensures { λ r. ⌜ partOut r ≡ read (now (file .entry)) (rawData state size address) at ⌝ }
+{
+    let none = Part {
+        position: 0,
+        length: 0,
+    };
+    let Address::Number(address) = address else {
+        return PartRead::Read(none, at);
+    };
+    if !state.is_address_valid(address) {
+        return PartRead::Read(none, at);
+    }
+    let Taken::At(_) = data_at(file, address as usize, size) else {
+        return PartRead::Refused(Refusal::Short);
+    };
+    PartRead::Read(part_of(address as usize, size), at)
+}
+
 // Contiguous storage, after the class.
-fn layout_contiguous(file: &[u8], at: usize, state: State) -> PartRead
+fn layout_contiguous(file: &[u8], at: usize, state: State) -> DataLayoutRead
     requires { ⌜ Widths state ⌝ }
-    ensures { λ r. ⌜ partOut r ≡ read (now (file .entry)) (contiguous state) at ⌝ }
+    ensures { λ r. ⌜ layoutOut r ≡ read (now (file .entry)) (contiguous state) at ⌝ }
 {
     let offsets = state.size_of_offsets;
     let lengths = state.size_of_lengths;
-    let ReadU64::Value(address, size_at) = varint(file, at, offsets) else {
-        return PartRead::Refused(Refusal::Short);
+    let ReadAddress::Value(address, size_at) = address(file, at, offsets) else {
+        return DataLayoutRead::Refused(Refusal::Short);
     };
     let ReadU64::Value(size, next) = varint(file, size_at, lengths) else {
-        return PartRead::Refused(Refusal::Short);
+        return DataLayoutRead::Refused(Refusal::Short);
     };
     if 268435456 <= size {
-        return PartRead::Refused(Refusal::DataLayout);
+        return DataLayoutRead::Refused(Refusal::DataLayout);
     }
-    if !state.is_address_valid(address) {
-        return PartRead::Read(
-            Part {
-                position: 0,
-                length: 0,
-            },
-            next,
-        );
+    match raw_data(file, next, state, address, size as usize) {
+        PartRead::Refused(r) => DataLayoutRead::Refused(r),
+        PartRead::Read(data, next) => {
+            let layout = DataLayout {
+                address: OptionAddress::Some(address),
+                data,
+            };
+            DataLayoutRead::Read(layout, next)
+        }
     }
-    let Taken::At(_) = data_at(file, address as usize, size as usize) else {
-        return PartRead::Refused(Refusal::Short);
-    };
-    let part = part_of(address as usize, size as usize);
-    PartRead::Read(part, next)
 }
 
-pub fn message_data_layout(file: &[u8], at: usize, state: State) -> PartRead
+pub fn message_data_layout(file: &[u8], at: usize, state: State) -> DataLayoutRead
     requires { ⌜ Widths state ⌝ }
-    ensures { λ r. ⌜ partOut r ≡ read (now (file .entry)) (dataLayout state) at ⌝ }
+    ensures { λ r. ⌜ layoutOut r ≡ read (now (file .entry)) (dataLayout state) at ⌝ }
 {
     let ReadU8::Value(version, class_at) = le_u8(file, at) else {
-        return PartRead::Refused(Refusal::Short);
+        return DataLayoutRead::Refused(Refusal::Short);
     };
     if version != 3 {
-        return PartRead::Refused(Refusal::DataLayout);
+        return DataLayoutRead::Refused(Refusal::DataLayout);
     }
     let ReadU8::Value(class, fields_at) = le_u8(file, class_at) else {
-        return PartRead::Refused(Refusal::Short);
+        return DataLayoutRead::Refused(Refusal::Short);
     };
     match class {
         0 => layout_compact(file, fields_at),
         1 => layout_contiguous(file, fields_at, state),
-        2 => PartRead::Refused(Refusal::Chunked),
-        _ => PartRead::Refused(Refusal::DataLayout),
+        2 => DataLayoutRead::Refused(Refusal::Chunked),
+        _ => DataLayoutRead::Refused(Refusal::DataLayout),
     }
 }
 

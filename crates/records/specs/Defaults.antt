@@ -4,6 +4,8 @@ use Rattle.records.specs.declared.OptionU8.the-variants as options8
 use Rattle.records.specs.declared.OptionU16.the-variants as options16
 use Rattle.records.specs.declared.OptionU32.the-variants as options32
 use Rattle.records.specs.declared.OptionU64.the-variants as options64
+use Rattle.records.specs.declared.Address.the-variants as addresses
+use Rattle.records.specs.declared.OptionAddress.the-variants as optionAddresses
 use Rattle.records.specs.declared.OptionDataFormat.the-variants as formats
 use Rattle.records.specs.declared.Dimensions.{Dimensions}
 use Rattle.records.specs.declared.DataSpace.{DataSpace}
@@ -11,6 +13,8 @@ use Rattle.records.specs.declared.LinkInfo.{LinkInfo}
 use Rattle.records.specs.declared.GroupInfo.{GroupInfo}
 use Rattle.records.specs.declared.AttributeInfo.{AttributeInfo}
 use Rattle.records.specs.declared.DataType.{DataType}
+use Rattle.records.specs.declared.Part.{Part}
+use Rattle.records.specs.declared.DataLayout.{DataLayout}
 
 abbrev pub noDimensions : Dimensions
 noDimensions = record { sizes = replicate 4 0; count = 0 }
@@ -30,9 +34,9 @@ defaultLinkInfo =
     record {
       flags = 0;
       «maximum_creation_index» = options64.None;
-      «fractal_heap_address» = 0;
-      «address_btree_index» = 0;
-      «address_btree_order» = options64.None;
+      «fractal_heap_address» = addresses.Number 0;
+      «address_btree_index» = addresses.Number 0;
+      «address_btree_order» = optionAddresses.None;
     }
 
 abbrev pub defaultGroupInfo : GroupInfo
@@ -50,9 +54,9 @@ defaultAttributeInfo =
     record {
       flags = 0;
       «maximum_creation_index» = 0;
-      «fractal_heap_address» = 0;
-      «attribute_name_btree» = 0;
-      «attribute_creation_order_btree» = 0;
+      «fractal_heap_address» = addresses.Number 0;
+      «attribute_name_btree» = addresses.Number 0;
+      «attribute_creation_order_btree» = addresses.Number 0;
     }
 
 abbrev pub defaultDataType : DataType
@@ -64,3 +68,10 @@ defaultDataType =
       «list_size» = options32.None;
       «data_fmt» = formats.None;
     }
+
+-- no bytes at all
+abbrev pub emptyPart : Part
+emptyPart = record { position = 0; length = 0 }
+
+abbrev pub defaultDataLayout : DataLayout
+defaultDataLayout = record { address = optionAddresses.None; «data» = emptyPart }

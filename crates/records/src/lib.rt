@@ -2,7 +2,7 @@
 // the reasons for which a file or a header is refused.
 ghost use mathlib.Core.Path.{_≡_};
 ghost use Rattle.records.specs.Refusals.{refusalNumber};
-ghost use Rattle.records.specs.Defaults.{noDimensions, defaultDataSpace, defaultLinkInfo, defaultGroupInfo, defaultAttributeInfo, defaultDataType};
+ghost use Rattle.records.specs.Defaults.{noDimensions, defaultDataSpace, defaultLinkInfo, defaultGroupInfo, defaultAttributeInfo, defaultDataType, defaultDataLayout};
 
 // Why a file or a header is refused. `refusalNumber` gives each its number.
 pub enum Refusal {
@@ -122,6 +122,17 @@ pub enum OptionU64 {
     Some(u64),
 }
 
+// An address of the file, or the undefined one, at which nothing stands.
+pub enum Address {
+    Undefined,
+    Number(u64),
+}
+
+pub enum OptionAddress {
+    None,
+    Some(Address),
+}
+
 // How the bits of a number stand in its bytes.
 pub enum DataFormat {
     Fixed {
@@ -192,9 +203,9 @@ impl DataSpace {
 pub struct LinkInfo {
     pub flags: u8,
     pub maximum_creation_index: OptionU64,
-    pub fractal_heap_address: u64,
-    pub address_btree_index: u64,
-    pub address_btree_order: OptionU64,
+    pub fractal_heap_address: Address,
+    pub address_btree_index: Address,
+    pub address_btree_order: OptionAddress,
 }
 
 impl LinkInfo {
@@ -204,9 +215,9 @@ impl LinkInfo {
         Self {
             flags: 0,
             maximum_creation_index: OptionU64::None,
-            fractal_heap_address: 0,
-            address_btree_index: 0,
-            address_btree_order: OptionU64::None,
+            fractal_heap_address: Address::Number(0),
+            address_btree_index: Address::Number(0),
+            address_btree_order: OptionAddress::None,
         }
     }
 }
@@ -236,9 +247,9 @@ impl GroupInfo {
 pub struct AttributeInfo {
     pub flags: u8,
     pub maximum_creation_index: u64,
-    pub fractal_heap_address: u64,
-    pub attribute_name_btree: u64,
-    pub attribute_creation_order_btree: u64,
+    pub fractal_heap_address: Address,
+    pub attribute_name_btree: Address,
+    pub attribute_creation_order_btree: Address,
 }
 
 impl AttributeInfo {
@@ -248,9 +259,9 @@ impl AttributeInfo {
         Self {
             flags: 0,
             maximum_creation_index: 0,
-            fractal_heap_address: 0,
-            attribute_name_btree: 0,
-            attribute_creation_order_btree: 0,
+            fractal_heap_address: Address::Number(0),
+            attribute_name_btree: Address::Number(0),
+            attribute_creation_order_btree: Address::Number(0),
         }
     }
 }
@@ -286,6 +297,27 @@ pub struct Part {
 pub enum OptionPart {
     None,
     Some(Part),
+}
+
+// A layout's data as bytes of the file, beside the address that the layout has for them. Compact
+// data have no address.
+pub struct DataLayout {
+    pub address: OptionAddress,
+    pub data: Part,
+}
+
+impl DataLayout {
+    pub fn default() -> Self
+        ensures { λ r. ⌜ r ≡ defaultDataLayout ⌝ }
+    {
+        Self {
+            address: OptionAddress::None,
+            data: Part {
+                position: 0,
+                length: 0,
+            },
+        }
+    }
 }
 
 // An attribute's name, and its value where it has one.

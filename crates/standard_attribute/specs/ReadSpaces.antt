@@ -9,7 +9,7 @@ use lib.Dec.{eqb, leb}
 use lib.ListN.{length, replicate, set}
 use borrow.Author.Tests.{eqb-true, eq-eqb, le-leb}
 use Rattle.format.specs.Bits.{bit}
-use Rattle.format.specs.Bytes.{le}
+use Rattle.format.specs.Bytes.{le, allOnes}
 use Rattle.format.specs.Format.{Format, done, refuse, number, bind, pick, Stands}
 use Rattle.format.specs.Laws.{unique}
 use Rattle.format.specs.Standing.{stands-bind, stands-check, bind-stands}
@@ -19,7 +19,7 @@ use Rattle.records.specs.declared.Dimensions.{Dimensions}
 use Rattle.records.specs.declared.DataSpace.{DataSpace}
 use Rattle.parser.specs.declared.State.{State}
 use Rattle.ohdr_dataspace.specs.declared.DataSpaceHeader.{DataSpaceHeader}
-use Rattle.ohdr_dataspace.specs.DataSpaces.{unlimited, dimension, dimensionsFrom, dimensions, kind, dataSpaceHeader, maximumSizes, dataSpaceOf, dataSpaceSizes, dataSpace}
+use Rattle.ohdr_dataspace.specs.DataSpaces.{dimension, dimensionsFrom, dimensions, kind, dataSpaceHeader, maximumSizes, dataSpaceOf, dataSpaceSizes, dataSpace}
 use Rattle.ohdr_dataspace.specs.DataSpaces as spaces
 use Rattle.standard.specs.Fields.{many}
 use Rattle.standard.specs.Tie.{Every}
@@ -33,14 +33,14 @@ use Rattle.standard_attribute.specs.Contents.{elements-by, elements-same
 
 -- what the port tests of one size
 abbrev allowed : ℕ → Bool → ℕ → Bool
-allowed w maximum n = leb n 1000000 || (maximum && eqb n (unlimited w))
+allowed w maximum n = leb n 1000000 || (maximum && eqb n (allOnes w))
 
 size-allowed : (w n : ℕ) → n ≤ 1000000 → allowed w false n ≡ true
 size-allowed w n h = rw (le-leb n 1000000 h)
 
-maximum-allowed : (w n : ℕ) → (n ≤ 1000000) ⊎ (n ≡ unlimited w) → allowed w true n ≡ true
+maximum-allowed : (w n : ℕ) → (n ≤ 1000000) ⊎ (n ≡ allOnes w) → allowed w true n ≡ true
 maximum-allowed w n (inl h) = rw (le-leb n 1000000 h)
-maximum-allowed w n (inr e) = rw (eq-eqb n (unlimited w) e) (go (leb n 1000000))
+maximum-allowed w n (inr e) = rw (eq-eqb n (allOnes w) e) (go (leb n 1000000))
   where
     go : (t : Bool) → (t || true) ≡ true
     go true = refl
@@ -87,7 +87,7 @@ module _ (s : List ℕ) (w : ℕ) where
 
   -- what stands after the header
   rest-read : (h : DataSpaceHeader) (p m q : ℕ) (ns : List ℕ) (x : Stored) → Stands s (many (h .dimensionality) (number w done)) p m ns
-      → Stands s (storedSizes (bit (h .flags) 0) (h .dimensionality) w) m q x → Every (λ n. n ≤ 1000000) ns → EachStored (λ n. (n ≤ 1000000) ⊎ (n ≡ unlimited w)) x
+      → Stands s (storedSizes (bit (h .flags) 0) (h .dimensionality) w) m q x → Every (λ n. n ≤ 1000000) ns → EachStored (λ n. (n ≤ 1000000) ⊎ (n ≡ allOnes w)) x
       → Reads (dataSpaceSizes w h) p q
   unfolding dataSpaceSizes
   rest-read h p m q ns x i j a b =
@@ -101,7 +101,7 @@ module _ (s : List ℕ) (w : ℕ) where
             (bind-stands s M (λ maximum. done (dataSpaceOf h (d .0) maximum)) m q q (e .0) r (e .1) (refl, refl)),
       )
     where
-      stored-allowed : (x : Stored) → EachStored (λ n. (n ≤ 1000000) ⊎ (n ≡ unlimited w)) x → EachStored (λ n. allowed w true n ≡ true) x
+      stored-allowed : (x : Stored) → EachStored (λ n. (n ≤ 1000000) ⊎ (n ≡ allOnes w)) x → EachStored (λ n. allowed w true n ≡ true) x
       stored-allowed not-stored b = tt
       stored-allowed (stored ns) b = every (maximum-allowed w) ns b
 

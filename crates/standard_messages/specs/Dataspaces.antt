@@ -10,14 +10,14 @@ use lib.Seq.{sets, sets-eq, take-append-seam}
 use lib.Dec.{eqb, leb}
 use borrow.Author.Tests.{eqb-true, eq-eqb, ne-eqb, leb-true, not-true}
 use Rattle.format.specs.Bits.{bit}
-use Rattle.format.specs.Bytes.{le}
+use Rattle.format.specs.Bytes.{le, allOnes}
 use Rattle.format.specs.Format.{Format, done, refuse, number, bind, check, pick}
 use Rattle.records.specs.Defaults.{noDimensions}
 use Rattle.records.specs.declared.OptionU8.the-variants as options8
 use Rattle.records.specs.declared.Dimensions.{Dimensions}
 use Rattle.records.specs.declared.DataSpace.{DataSpace}
 use Rattle.parser.specs.declared.State.{State}
-use Rattle.ohdr_dataspace.specs.DataSpaces.{unlimited, dimension, dimensionsFrom, dimensions, kind, headerFlags, headerSizes, dataSpaceHeader, maximumSizes, dataSpaceSizes, dataSpace}
+use Rattle.ohdr_dataspace.specs.DataSpaces.{dimension, dimensionsFrom, dimensions, kind, headerFlags, headerSizes, dataSpaceHeader, maximumSizes, dataSpaceSizes, dataSpace}
 use Rattle.standard.specs.Fields.{only, many}
 use Rattle.standard.specs.Tie.{Tied, tied-done, tied-number, tied-skip-number, tied-split, tied-check, tied-only, tied-bind, tied-more, tied-after, tied-bind-check}
 use Rattle.standard.specs.Versions.{marked, tied-by-version, tied-marked}
@@ -56,7 +56,7 @@ SameDataspace ours (version-2 x) = SameDataspace2 ours x
 -- one size
 dimension-tied : (w : ℕ) (maximum : Bool) → Tied _≡_ (dimension w maximum) (number w done)
 unfolding dimension
-dimension-tied w maximum = tied-number (λ size. tied-check (leb size 1000000 || (maximum && eqb size (unlimited w))) 9 (λ _. tied-done refl))
+dimension-tied w maximum = tied-number (λ size. tied-check (leb size 1000000 || (maximum && eqb size (allOnes w))) 9 (λ _. tied-done refl))
 
 -- n sizes from place i of a list on
 record Placed (sizes : List ℕ) (i n : ℕ) (ours theirs : List ℕ) : Type 0 where

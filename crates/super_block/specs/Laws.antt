@@ -13,7 +13,8 @@ use Rattle.format.specs.Bytes.{le}
 use Rattle.format.specs.Covers.{forward, inside}
 use Rattle.format.specs.Format.{Stands, Out, found, refused, pick, read}
 use Rattle.format.specs.Laws.{sound, never}
-use Rattle.format.specs.Standing.{stands-check}
+use Rattle.format.specs.Standing.{stands-bind, stands-check}
+use Rattle.helpers.specs.Addresses.{address, definedAddress}
 use Rattle.lookup3.specs.Lookup3.{sumMatches}
 use Rattle.parser.specs.States.{fileLimit, widthAllowed}
 use Rattle.parser.specs.StateLaws.{widths-of}
@@ -58,7 +59,10 @@ module _ (s : List ℕ) where
   unfolding addresses
   kept o l p q b h =
       let c = stands-check s (eqb (le s p o) 0) 27 _ (p + o) q b (h .1) in
-      let e = c .1 .1 .1 .1 .1 .1 in
+      let x = stands-bind s (address o) _ (p + o) q b (c .1) in
+      let f = stands-bind s (definedAddress o 3) _ (x .0) q b (x .3) in
+      let r = stands-bind s (definedAddress o 3) _ (f .0) q b (f .3) in
+      let e = r .3 .1 .1 in
       (ap (λ (x : SuperBlock). x .«size_of_offsets») e, ap (λ (x : SuperBlock). x .«size_of_lengths») e)
 
   -- the widths have passed their tests, and the addresses stand behind the flags

@@ -1,14 +1,18 @@
 -- No refusal of a superblock has the number 0, since none of its tests has. Assumes nothing.
 use Prim.Native.Nat.{ℕ, _+_, _-_}
-use mathlib.Core.Path.{_≡_, refl, sym, _∙_}
+use mathlib.Core.Path.{_≡_, refl, sym, ap, _∙_}
 use mathlib.Core.Bool.{Bool, true, false, _||_}
 use mathlib.Core.List.{List}
 use native.Mathlib.Omega.{arith}
 use lib.ListN.{length}
 use lib.Dec.{eqb, leb}
 use Rattle.format.specs.Bytes.{le}
-use Rattle.format.specs.Format.{Format, done, number, Out, found, refused, read, pick, check}
+use Rattle.format.specs.Format.{Format, done, number, bind, Out, found, refused, read, pick, check}
 use Rattle.format.specs.Laws.{never}
+use Rattle.format.specs.Steps.{after, read-bind}
+use Rattle.records.specs.declared.Address.{Address}
+use Rattle.records.specs.declared.Address.the-variants as addresses
+use Rattle.helpers.specs.Addresses.{address, defined, definedAddress}
 use Rattle.lookup3.specs.Lookup3.{sumMatches}
 use Rattle.parser.specs.States.{fileLimit, widthAllowed}
 use Rattle.super_block.specs.declared.SuperBlock.{SuperBlock}
@@ -36,14 +40,34 @@ module _ (s : List ℕ) where
   check-positive true n F p z f e = f e
   check-positive false n F p z f e = z (refusal e)
 
+  bind-positive : {A B : Type 0} (F : Format A) (k : A → Format B) (p : ℕ) → (read s F p ≡ refused 0 → ⊥) → ((a : A) (q : ℕ) → read s (k a) q ≡ refused 0 → ⊥) → read s (bind F k) p ≡ refused 0 → ⊥
+  bind-positive {A} {B} F k p f g e = go (read s F p) refl (sym (read-bind s F k p) ∙ e)
+    where
+      go : (r : Out A) → read s F p ≡ r → after s k r ≡ refused 0 → ⊥
+      go (found a q) d h = g a q h
+      go (refused n) d h = f (d ∙ ap (λ (m : ℕ). refused m) (refusal h))
+
+  address-positive : (w p : ℕ) → read s (address w) p ≡ refused 0 → ⊥
+  unfolding address
+  address-positive w p = number-positive w _ p (λ n q. done-positive _ q)
+
+  defined-positive : (a : Address) (p : ℕ) → read s (defined 3 a) p ≡ refused 0 → ⊥
+  unfolding read
+  defined-positive addresses.Undefined p e = let z : _≡_ {A = ℕ} 3 0 = refusal e in omega arith
+  defined-positive (addresses.Number n) p e = never (sym e)
+
+  defined-address-positive : (w p : ℕ) → read s (definedAddress w 3) p ≡ refused 0 → ⊥
+  unfolding definedAddress
+  defined-address-positive w p = bind-positive (address w) (defined 3) p (address-positive w p) defined-positive
+
   addresses-positive : (o l p : ℕ) → read s (addresses o l) p ≡ refused 0 → ⊥
   unfolding addresses
   addresses-positive o l p =
       number-positive o _ p (λ base q.
       check-positive (eqb base 0) 27 _ q (λ e. omega arith) (
-      number-positive o _ q (λ extension q.
-      number-positive o _ q (λ end q.
-      number-positive o _ q (λ root q.
+      bind-positive (address o) _ q (address-positive o q) (λ extension q.
+      bind-positive (definedAddress o 3) _ q (defined-address-positive o q) (λ end q.
+      bind-positive (definedAddress o 3) _ q (defined-address-positive o q) (λ root q.
       number-positive 4 _ q (λ checksum q. done-positive _ q))))))
 
   pub refusal-not-0 : superBlockOf s ≡ refused 0 → ⊥

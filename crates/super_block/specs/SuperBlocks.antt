@@ -4,19 +4,20 @@ use mathlib.Core.Bool.{_||_}
 use mathlib.Core.List.{List}
 use lib.ListN.{length}
 use lib.Dec.{eqb, leb}
-use Rattle.format.specs.Format.{Format, done, number, check, pick, Out, found, refused, read}
+use Rattle.format.specs.Format.{Format, done, number, bind, check, pick, Out, found, refused, read}
+use Rattle.helpers.specs.Addresses.{address, definedAddress}
 use Rattle.lookup3.specs.Lookup3.{sumMatches}
 use Rattle.parser.specs.States.{fileLimit, widthAllowed}
 use Rattle.super_block.specs.declared.SuperBlock.{SuperBlock}
 
--- the fields from the base address on, which is zero; the others may have any value
+-- the fields from the base address on, which is zero; end-of-file and root may not be undefined
 unfoldable pub addresses : ℕ → ℕ → Format SuperBlock
 addresses size-of-offsets size-of-lengths =
     number size-of-offsets (λ base-address.
     check (eqb base-address 0) 27 (
-    number size-of-offsets (λ superblock-extension-address.
-    number size-of-offsets (λ end-of-file-address.
-    number size-of-offsets (λ root-group-object-header-address.
+    bind (address size-of-offsets) (λ superblock-extension-address.
+    bind (definedAddress size-of-offsets 3) (λ end-of-file-address.
+    bind (definedAddress size-of-offsets 3) (λ root-group-object-header-address.
     number 4 (λ superblock-checksum.
     done {A = SuperBlock} (record {
       «size_of_offsets» = size-of-offsets;

@@ -1,7 +1,9 @@
 // The superblock at the beginning of a file (super_block.rs), of versions 2 and 3.
+use helpers::ReadAddress;
 use helpers::ReadU8;
 use helpers::ReadU32;
 use helpers::ReadU64;
+use helpers::address;
 use helpers::le_u8;
 use helpers::le_u32;
 use helpers::le_u64;
@@ -9,19 +11,23 @@ use helpers::varint;
 use lookup3::checksum_matches;
 use parser::FILE_LIMIT;
 use parser::width_allowed;
+use records::Address;
 use records::Refusal;
 ghost use mathlib.Core.Path.{_≡_};
 ghost use Prim.Native.Nat.{_≤_};
 ghost use Rattle.format.specs.Format.{read};
+ghost use Rattle.helpers.specs.Addresses.{definedAddress};
+ghost use Rattle.helpers.specs.Answers.{u64Out};
 ghost use Rattle.super_block.specs.SuperBlocks.{addresses as addressFields, superBlock, superBlockOf};
 ghost use Rattle.super_block.specs.Answers.{superBlockOut, WidthsRead};
 
-// Widths are in bytes; the base address is 0.
+// Widths are in bytes; the base address is 0. An undefined end-of-file or root address is refused, so
+// these two are numbers.
 pub struct SuperBlock {
     pub size_of_offsets: u8,
     pub size_of_lengths: u8,
     pub base_address: u64,
-    pub superblock_extension_address: u64,
+    pub superblock_extension_address: Address,
     pub end_of_file_address: u64,
     pub root_group_object_header_address: u64,
 }
@@ -30,6 +36,20 @@ pub struct SuperBlock {
 pub enum SuperBlockRead {
     Read(SuperBlock, usize),
     Refused(Refusal),
+}
+
+// An address that may not be undefined. One that is counts as short.
+fn defined_address(file: &[u8], at: usize, size: usize) -> ReadU64
+    requires { ⌜ size ≤ 8 ⌝ }
+    ensures { λ r. ⌜ u64Out r ≡ read (now (file .entry)) (definedAddress size 3) at ⌝ }
+{
+    let ReadAddress::Value(stored, next) = address(file, at, size) else {
+        return ReadU64::Short;
+    };
+    match stored {
+        Address::Undefined => ReadU64::Short,
+        Address::Number(number) => ReadU64::Value(number, next),
+    }
 }
 
 // The fields from the base address on.
@@ -44,13 +64,13 @@ fn addresses(file: &[u8], at: usize, size_of_offsets: u8, size_of_lengths: u8) -
     if base_address != 0 {
         return SuperBlockRead::Refused(Refusal::BaseAddress);
     }
-    let ReadU64::Value(superblock_extension_address, at) = varint(file, at, width) else {
+    let ReadAddress::Value(superblock_extension_address, at) = address(file, at, width) else {
         return SuperBlockRead::Refused(Refusal::Short);
     };
-    let ReadU64::Value(end_of_file_address, at) = varint(file, at, width) else {
+    let ReadU64::Value(end_of_file_address, at) = defined_address(file, at, width) else {
         return SuperBlockRead::Refused(Refusal::Short);
     };
-    let ReadU64::Value(root_group_object_header_address, at) = varint(file, at, width) else {
+    let ReadU64::Value(root_group_object_header_address, at) = defined_address(file, at, width) else {
         return SuperBlockRead::Refused(Refusal::Short);
     };
     let ReadU32::Value(_, at) = le_u32(file, at) else {

@@ -55,16 +55,16 @@ winning-group-info-requires : tie.Need-winning-group-info-requires
 winning-group-info-requires c κs = last-within (c .before .before .before .before .before .before .before .before .before .args .table .now) _ 10 (c .before .before .before .before .before .before .before .before .before .args .progress .rows) (omega arith) (c .before .before .before .before .before .last-rows .ensures) (c .before .before .before .before .before .before .before .before .before .pre .1)
 
 -- src/lib.rt:127:42
-array-read-winning-data : tie.Need-array-read-winning-data
-array-read-winning-data c = search needs
+array-read-winning-data-layout : tie.Need-array-read-winning-data-layout
+array-read-winning-data-layout c = search needs
 
 -- src/lib.rt:127:9
-winning-data-requires : tie.Need-winning-data-requires
-winning-data-requires c κs = (c .before .before .before .before .before .before .before .before .before .before .pre .0, last-within (c .before .before .before .before .before .before .before .before .before .before .args .table .now) _ 8 (c .before .before .before .before .before .before .before .before .before .before .args .progress .rows) (omega arith) (c .before .before .before .before .before .before .last-rows .ensures) (c .before .before .before .before .before .before .before .before .before .before .pre .1))
+winning-data-layout-requires : tie.Need-winning-data-layout-requires
+winning-data-layout-requires c κs = (c .before .before .before .before .before .before .before .before .before .before .pre .0, last-within (c .before .before .before .before .before .before .before .before .before .before .args .table .now) _ 8 (c .before .before .before .before .before .before .before .before .before .before .args .progress .rows) (omega arith) (c .before .before .before .before .before .before .last-rows .ensures) (c .before .before .before .before .before .before .before .before .before .before .pre .1))
 
 -- src/lib.rt:110:1
 returns : tie.Need-returns
-returns c = record { answer = refl; rows = refl; ds = rw (← last-at (c .before .before .before .before .before .before .before .before .before .before .before .args .table .now) _ 1 (c .before .before .before .before .before .before .before .before .before .before .before .args .progress .rows) (omega arith) (c .before .before .before .before .before .before .before .last-rows .ensures)) (c .before .before .before .before .winning-data-space .ensures); dt = rw (← last-at (c .before .before .before .before .before .before .before .before .before .before .before .args .table .now) _ 3 (c .before .before .before .before .before .before .before .before .before .before .before .args .progress .rows) (omega arith) (c .before .before .before .before .before .before .before .last-rows .ensures)) (c .before .before .before .before .before .winning-data-type .ensures); li = rw (← last-at (c .before .before .before .before .before .before .before .before .before .before .before .args .table .now) _ 2 (c .before .before .before .before .before .before .before .before .before .before .before .args .progress .rows) (omega arith) (c .before .before .before .before .before .before .before .last-rows .ensures)) (c .before .before .before .winning-link-info .ensures); gi = rw (← last-at (c .before .before .before .before .before .before .before .before .before .before .before .args .table .now) _ 10 (c .before .before .before .before .before .before .before .before .before .before .before .args .progress .rows) (omega arith) (c .before .before .before .before .before .before .before .last-rows .ensures)) (c .before .winning-group-info .ensures); ai = rw (← last-at (c .before .before .before .before .before .before .before .before .before .before .before .args .table .now) _ 21 (c .before .before .before .before .before .before .before .before .before .before .before .args .progress .rows) (omega arith) (c .before .before .before .before .before .before .before .last-rows .ensures)) (c .before .before .winning-attribute-info .ensures); «data» = rw (← last-at (c .before .before .before .before .before .before .before .before .before .before .before .args .table .now) _ 8 (c .before .before .before .before .before .before .before .before .before .before .before .args .progress .rows) (omega arith) (c .before .before .before .before .before .before .before .last-rows .ensures)) (c .winning-data .ensures) }
+returns c = record { answer = refl; rows = refl; ds = rw (← last-at (c .before .before .before .before .before .before .before .before .before .before .before .args .table .now) _ 1 (c .before .before .before .before .before .before .before .before .before .before .before .args .progress .rows) (omega arith) (c .before .before .before .before .before .before .before .last-rows .ensures)) (c .before .before .before .before .winning-data-space .ensures); dt = rw (← last-at (c .before .before .before .before .before .before .before .before .before .before .before .args .table .now) _ 3 (c .before .before .before .before .before .before .before .before .before .before .before .args .progress .rows) (omega arith) (c .before .before .before .before .before .before .before .last-rows .ensures)) (c .before .before .before .before .before .winning-data-type .ensures); li = rw (← last-at (c .before .before .before .before .before .before .before .before .before .before .before .args .table .now) _ 2 (c .before .before .before .before .before .before .before .before .before .before .before .args .progress .rows) (omega arith) (c .before .before .before .before .before .before .before .last-rows .ensures)) (c .before .before .before .winning-link-info .ensures); gi = rw (← last-at (c .before .before .before .before .before .before .before .before .before .before .before .args .table .now) _ 10 (c .before .before .before .before .before .before .before .before .before .before .before .args .progress .rows) (omega arith) (c .before .before .before .before .before .before .before .last-rows .ensures)) (c .before .winning-group-info .ensures); ai = rw (← last-at (c .before .before .before .before .before .before .before .before .before .before .before .args .table .now) _ 21 (c .before .before .before .before .before .before .before .before .before .before .before .args .progress .rows) (omega arith) (c .before .before .before .before .before .before .before .last-rows .ensures)) (c .before .before .winning-attribute-info .ensures); layout = rw (← last-at (c .before .before .before .before .before .before .before .before .before .before .before .args .table .now) _ 8 (c .before .before .before .before .before .before .before .before .before .before .before .args .progress .rows) (omega arith) (c .before .before .before .before .before .before .before .last-rows .ensures)) (c .winning-data-layout .ensures) }
 
 pub build-data-object-from-messages-spec : {M : Type 1} → statement M
 build-data-object-from-messages-spec =
@@ -82,6 +82,6 @@ build-data-object-from-messages-spec =
     winning-attribute-info-requires
     array-read-winning-group-info
     winning-group-info-requires
-    array-read-winning-data
-    winning-data-requires
+    array-read-winning-data-layout
+    winning-data-layout-requires
     returns)

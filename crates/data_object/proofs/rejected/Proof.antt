@@ -1,4 +1,4 @@
--- Each record is its type's default, and the part is the empty one.
+-- Each record is its type's default.
 use Rattle.data_object.specs.DecodedLaws.{wins≡}
 use mathlib.Core.Path.{refl}
 use borrow.Author.Needs.{needs}
@@ -20,8 +20,11 @@ default-requires-4 c κs = search needs
 default-requires-5 : tie.Need-default-requires-5
 default-requires-5 c κs = search needs
 
+default-requires-6 : tie.Need-default-requires-6
+default-requires-6 c κs = search needs
+
 returns : tie.Need-returns
-returns c = record { answer = refl; rows = refl; records = wins≡ (c .before .before .before .default2 .ensures) (c .before .before .before .before .default .ensures) (c .before .before .default3 .ensures) (c .default5 .ensures) (c .before .default4 .ensures) refl }
+returns c = record { answer = refl; rows = refl; records = wins≡ (c .before .before .before .before .default2 .ensures) (c .before .before .before .before .before .default .ensures) (c .before .before .before .default3 .ensures) (c .before .default5 .ensures) (c .before .before .default4 .ensures) (c .default6 .ensures) }
 
 pub rejected-spec : {M : Type 1} → statement M
 rejected-spec =
@@ -32,4 +35,5 @@ rejected-spec =
     default-requires-3
     default-requires-4
     default-requires-5
+    default-requires-6
     returns)

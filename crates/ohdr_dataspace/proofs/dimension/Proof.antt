@@ -28,16 +28,16 @@ returns-3 : tie.Need-returns-3
 unfolding dimension
 returns-3 c = rw (read-number, ← c .before .before .before .before .before .varint .ensures, c .before .before .before .size .given .1, lt-leb _ _ (c .before .if1 .left), not-true (c .before .before .before .before .before .before .before .args .maximum) (c .if2 .taken), read-refuse)
 
-unlimited-requires : tie.Need-unlimited-requires
-unlimited-requires c κs = search needs
+all-ones-requires : tie.Need-all-ones-requires
+all-ones-requires c κs = search needs
 
 returns-4 : tie.Need-returns-4
 unfolding dimension
-returns-4 c = rw (read-number, ← c .before .before .before .before .before .before .before .varint .ensures, c .before .before .before .before .before .size .given .1, lt-leb _ _ (c .before .before .before .if1 .left), not-false (c .before .before .before .before .before .before .before .before .before .args .maximum) (c .before .before .if2 .left), ← c .before .unlimited .ensures, eq-eqb _ _ (c .if3 .taken), read-done)
+returns-4 c = rw (read-number, ← c .before .before .before .before .before .before .before .varint .ensures, c .before .before .before .before .before .size .given .1, lt-leb _ _ (c .before .before .before .if1 .left), not-false (c .before .before .before .before .before .before .before .before .before .args .maximum) (c .before .before .if2 .left), ← c .before .all-ones .ensures, eq-eqb _ _ (c .if3 .taken), read-done)
 
 returns-5 : tie.Need-returns-5
 unfolding dimension
-returns-5 c = rw (read-number, ← c .before .before .before .before .before .before .before .varint .ensures, c .before .before .before .before .before .size .given .1, lt-leb _ _ (c .before .before .before .if1 .left), not-false (c .before .before .before .before .before .before .before .before .before .args .maximum) (c .before .before .if2 .left), ← c .before .unlimited .ensures, ne-eqb _ _ (c .if3 .left), read-refuse)
+returns-5 c = rw (read-number, ← c .before .before .before .before .before .before .before .varint .ensures, c .before .before .before .before .before .size .given .1, lt-leb _ _ (c .before .before .before .if1 .left), not-false (c .before .before .before .before .before .before .before .before .before .args .maximum) (c .before .before .if2 .left), ← c .before .all-ones .ensures, ne-eqb _ _ (c .if3 .left), read-refuse)
 
 pub dimension-spec : {M : Type 1} → statement M
 dimension-spec =
@@ -49,6 +49,6 @@ dimension-spec =
     returns
     returns-2
     returns-3
-    unlimited-requires
+    all-ones-requires
     returns-4
     returns-5)

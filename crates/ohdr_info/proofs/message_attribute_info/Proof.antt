@@ -50,8 +50,8 @@ returns-4 : tie.Need-returns-4
 unfolding attributeInfo
 returns-4 c = rw (read-number, ← c .before .before .before .before .before .before .before .before .before .before .before .le-u8 .ensures, c .before .before .before .before .before .before .before .before .before .version .given .1, eq-eqb _ _ (c .before .before .before .before .before .before .before .if1 .left), read-number, ← c .before .before .before .before .before .before .le-u82 .ensures, c .before .before .before .before .flags .given .1, read-bind, flag-0, ← c .before .before .cond-u16 .ensures, c .enum-told3 .given .1)
 
-varint-requires : tie.Need-varint-requires
-varint-requires c κs = search needs
+address-requires : tie.Need-address-requires
+address-requires c κs = search needs
 
 enum-known-heap : tie.Need-enum-known-heap
 enum-known-heap c = search needs
@@ -61,10 +61,10 @@ enum-told-4 c = search needs
 
 returns-5 : tie.Need-returns-5
 unfolding attributeInfo
-returns-5 c = rw (read-number, ← c .before .before .before .before .before .before .before .before .before .before .before .before .before .before .before .le-u8 .ensures, c .before .before .before .before .before .before .before .before .before .before .before .before .before .version .given .1, eq-eqb _ _ (c .before .before .before .before .before .before .before .before .before .before .before .if1 .left), read-number, ← c .before .before .before .before .before .before .before .before .before .before .le-u82 .ensures, c .before .before .before .before .before .before .before .before .flags .given .1, read-bind, flag-0, ← c .before .before .before .before .before .before .cond-u16 .ensures, c .before .before .before .before .index .given .1, read-number, ← c .before .before .varint .ensures, c .enum-told4 .given .1)
+returns-5 c = rw (read-number, ← c .before .before .before .before .before .before .before .before .before .before .before .before .before .before .before .le-u8 .ensures, c .before .before .before .before .before .before .before .before .before .before .before .before .before .version .given .1, eq-eqb _ _ (c .before .before .before .before .before .before .before .before .before .before .before .if1 .left), read-number, ← c .before .before .before .before .before .before .before .before .before .before .le-u82 .ensures, c .before .before .before .before .before .before .before .before .flags .given .1, read-bind, flag-0, ← c .before .before .before .before .before .before .cond-u16 .ensures, c .before .before .before .before .index .given .1, read-bind, ← c .before .before .address .ensures, c .enum-told4 .given .1)
 
-varint-requires-2 : tie.Need-varint-requires-2
-varint-requires-2 c κs = search needs
+address-requires-2 : tie.Need-address-requires-2
+address-requires-2 c κs = search needs
 
 enum-known-names : tie.Need-enum-known-names
 enum-known-names c = search needs
@@ -74,10 +74,10 @@ enum-told-5 c = search needs
 
 returns-6 : tie.Need-returns-6
 unfolding attributeInfo
-returns-6 c = rw (read-number, ← c .before .before .before .before .before .before .before .before .before .before .before .before .before .before .before .before .before .before .before .le-u8 .ensures, c .before .before .before .before .before .before .before .before .before .before .before .before .before .before .before .before .before .version .given .1, eq-eqb _ _ (c .before .before .before .before .before .before .before .before .before .before .before .before .before .before .before .if1 .left), read-number, ← c .before .before .before .before .before .before .before .before .before .before .before .before .before .before .le-u82 .ensures, c .before .before .before .before .before .before .before .before .before .before .before .before .flags .given .1, read-bind, flag-0, ← c .before .before .before .before .before .before .before .before .before .before .cond-u16 .ensures, c .before .before .before .before .before .before .before .before .index .given .1, read-number, ← c .before .before .before .before .before .before .varint .ensures, c .before .before .before .before .heap .given .1, read-number, ← c .before .before .varint2 .ensures, c .enum-told5 .given .1)
+returns-6 c = rw (read-number, ← c .before .before .before .before .before .before .before .before .before .before .before .before .before .before .before .before .before .before .before .le-u8 .ensures, c .before .before .before .before .before .before .before .before .before .before .before .before .before .before .before .before .before .version .given .1, eq-eqb _ _ (c .before .before .before .before .before .before .before .before .before .before .before .before .before .before .before .if1 .left), read-number, ← c .before .before .before .before .before .before .before .before .before .before .before .before .before .before .le-u82 .ensures, c .before .before .before .before .before .before .before .before .before .before .before .before .flags .given .1, read-bind, flag-0, ← c .before .before .before .before .before .before .before .before .before .before .cond-u16 .ensures, c .before .before .before .before .before .before .before .before .index .given .1, read-bind, ← c .before .before .before .before .before .before .address .ensures, c .before .before .before .before .heap .given .1, read-bind, ← c .before .before .address2 .ensures, c .enum-told5 .given .1)
 
-cond-varint-requires : tie.Need-cond-varint-requires
-cond-varint-requires c κs = search needs
+cond-address-requires : tie.Need-cond-address-requires
+cond-address-requires c κs = search needs
 
 enum-known-order : tie.Need-enum-known-order
 enum-known-order c = search needs
@@ -87,14 +87,14 @@ enum-told-6 c = search needs
 
 returns-7 : tie.Need-returns-7
 unfolding attributeInfo
-returns-7 c = rw (read-number, ← c .before .before .before .before .before .before .before .before .before .before .before .before .before .before .before .before .before .before .before .before .before .before .before .le-u8 .ensures, c .before .before .before .before .before .before .before .before .before .before .before .before .before .before .before .before .before .before .before .before .before .version .given .1, eq-eqb _ _ (c .before .before .before .before .before .before .before .before .before .before .before .before .before .before .before .before .before .before .before .if1 .left), read-number, ← c .before .before .before .before .before .before .before .before .before .before .before .before .before .before .before .before .before .before .le-u82 .ensures, c .before .before .before .before .before .before .before .before .before .before .before .before .before .before .before .before .flags .given .1, read-bind, flag-0, ← c .before .before .before .before .before .before .before .before .before .before .before .before .before .before .cond-u16 .ensures, c .before .before .before .before .before .before .before .before .before .before .before .before .index .given .1, read-number, ← c .before .before .before .before .before .before .before .before .before .before .varint .ensures, c .before .before .before .before .before .before .before .before .heap .given .1, read-number, ← c .before .before .before .before .before .before .varint2 .ensures, c .before .before .before .before .names .given .1, read-bind, flag-1, ← c .before .before .cond-varint .ensures, c .enum-told6 .given .1)
+returns-7 c = rw (read-number, ← c .before .before .before .before .before .before .before .before .before .before .before .before .before .before .before .before .before .before .before .before .before .before .before .le-u8 .ensures, c .before .before .before .before .before .before .before .before .before .before .before .before .before .before .before .before .before .before .before .before .before .version .given .1, eq-eqb _ _ (c .before .before .before .before .before .before .before .before .before .before .before .before .before .before .before .before .before .before .before .if1 .left), read-number, ← c .before .before .before .before .before .before .before .before .before .before .before .before .before .before .before .before .before .before .le-u82 .ensures, c .before .before .before .before .before .before .before .before .before .before .before .before .before .before .before .before .flags .given .1, read-bind, flag-0, ← c .before .before .before .before .before .before .before .before .before .before .before .before .before .before .cond-u16 .ensures, c .before .before .before .before .before .before .before .before .before .before .before .before .index .given .1, read-bind, ← c .before .before .before .before .before .before .before .before .before .before .address .ensures, c .before .before .before .before .before .before .before .before .heap .given .1, read-bind, ← c .before .before .before .before .before .before .address2 .ensures, c .before .before .before .before .names .given .1, read-bind, flag-1, ← c .before .before .cond-address .ensures, c .enum-told6 .given .1)
 
 cast-t34 : tie.Need-cast-t34
 cast-t34 c = search needs
 
 returns-8 : tie.Need-returns-8
 unfolding attributeInfo
-returns-8 c = rw (read-number, ← c .before .before .before .before .before .before .before .before .before .before .before .before .before .before .before .before .before .before .before .before .before .before .before .before .le-u8 .ensures, c .before .before .before .before .before .before .before .before .before .before .before .before .before .before .before .before .before .before .before .before .before .before .version .given .1, eq-eqb _ _ (c .before .before .before .before .before .before .before .before .before .before .before .before .before .before .before .before .before .before .before .before .if1 .left), read-number, ← c .before .before .before .before .before .before .before .before .before .before .before .before .before .before .before .before .before .before .before .le-u82 .ensures, c .before .before .before .before .before .before .before .before .before .before .before .before .before .before .before .before .before .flags .given .1, read-bind, flag-0, ← c .before .before .before .before .before .before .before .before .before .before .before .before .before .before .before .cond-u16 .ensures, c .before .before .before .before .before .before .before .before .before .before .before .before .before .index .given .1, read-number, ← c .before .before .before .before .before .before .before .before .before .before .before .varint .ensures, c .before .before .before .before .before .before .before .before .before .heap .given .1, read-number, ← c .before .before .before .before .before .before .before .varint2 .ensures, c .before .before .before .before .before .names .given .1, read-bind, flag-1, ← c .before .before .before .cond-varint .ensures, c .before .order .given .1, read-done)
+returns-8 c = rw (read-number, ← c .before .before .before .before .before .before .before .before .before .before .before .before .before .before .before .before .before .before .before .before .before .before .before .before .le-u8 .ensures, c .before .before .before .before .before .before .before .before .before .before .before .before .before .before .before .before .before .before .before .before .before .before .version .given .1, eq-eqb _ _ (c .before .before .before .before .before .before .before .before .before .before .before .before .before .before .before .before .before .before .before .before .if1 .left), read-number, ← c .before .before .before .before .before .before .before .before .before .before .before .before .before .before .before .before .before .before .before .le-u82 .ensures, c .before .before .before .before .before .before .before .before .before .before .before .before .before .before .before .before .before .flags .given .1, read-bind, flag-0, ← c .before .before .before .before .before .before .before .before .before .before .before .before .before .before .before .cond-u16 .ensures, c .before .before .before .before .before .before .before .before .before .before .before .before .before .index .given .1, read-bind, ← c .before .before .before .before .before .before .before .before .before .before .before .address .ensures, c .before .before .before .before .before .before .before .before .before .heap .given .1, read-bind, ← c .before .before .before .before .before .before .before .address2 .ensures, c .before .before .before .before .before .names .given .1, read-bind, flag-1, ← c .before .before .before .cond-address .ensures, c .before .order .given .1, read-done)
 
 pub message-attribute-info-spec : {M : Type 1} → statement M
 message-attribute-info-spec =
@@ -113,15 +113,15 @@ message-attribute-info-spec =
     enum-known-index
     enum-told-3
     returns-4
-    varint-requires
+    address-requires
     enum-known-heap
     enum-told-4
     returns-5
-    varint-requires-2
+    address-requires-2
     enum-known-names
     enum-told-5
     returns-6
-    cond-varint-requires
+    cond-address-requires
     enum-known-order
     enum-told-6
     returns-7

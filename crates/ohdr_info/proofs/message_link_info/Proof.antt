@@ -37,8 +37,8 @@ returns-3 : tie.Need-returns-3
 unfolding linkInfo
 returns-3 c = rw (read-number, ← c .before .before .before .before .before .before .before .le-u8 .ensures, c .before .before .before .before .before .version .given .1, eq-eqb _ _ (c .before .before .before .if1 .left), read-number, ← c .before .before .le-u82 .ensures, c .enum-told2 .given .1)
 
-cond-varint-requires : tie.Need-cond-varint-requires
-cond-varint-requires c κs = search needs
+cond-u64-requires : tie.Need-cond-u64-requires
+cond-u64-requires c κs = search needs
 
 enum-known-index : tie.Need-enum-known-index
 enum-known-index c = search needs
@@ -48,10 +48,10 @@ enum-told-3 c = search needs
 
 returns-4 : tie.Need-returns-4
 unfolding linkInfo
-returns-4 c = rw (read-number, ← c .before .before .before .before .before .before .before .before .before .before .before .le-u8 .ensures, c .before .before .before .before .before .before .before .before .before .version .given .1, eq-eqb _ _ (c .before .before .before .before .before .before .before .if1 .left), read-number, ← c .before .before .before .before .before .before .le-u82 .ensures, c .before .before .before .before .flags .given .1, read-bind, flag-0, ← c .before .before .cond-varint .ensures, c .enum-told3 .given .1)
+returns-4 c = rw (read-number, ← c .before .before .before .before .before .before .before .before .before .before .before .le-u8 .ensures, c .before .before .before .before .before .before .before .before .before .version .given .1, eq-eqb _ _ (c .before .before .before .before .before .before .before .if1 .left), read-number, ← c .before .before .before .before .before .before .le-u82 .ensures, c .before .before .before .before .flags .given .1, read-bind, flag-0, ← c .before .before .cond-u64 .ensures, c .enum-told3 .given .1)
 
-varint-requires : tie.Need-varint-requires
-varint-requires c κs = search needs
+address-requires : tie.Need-address-requires
+address-requires c κs = search needs
 
 enum-known-heap : tie.Need-enum-known-heap
 enum-known-heap c = search needs
@@ -61,10 +61,10 @@ enum-told-4 c = search needs
 
 returns-5 : tie.Need-returns-5
 unfolding linkInfo
-returns-5 c = rw (read-number, ← c .before .before .before .before .before .before .before .before .before .before .before .before .before .before .before .le-u8 .ensures, c .before .before .before .before .before .before .before .before .before .before .before .before .before .version .given .1, eq-eqb _ _ (c .before .before .before .before .before .before .before .before .before .before .before .if1 .left), read-number, ← c .before .before .before .before .before .before .before .before .before .before .le-u82 .ensures, c .before .before .before .before .before .before .before .before .flags .given .1, read-bind, flag-0, ← c .before .before .before .before .before .before .cond-varint .ensures, c .before .before .before .before .index .given .1, read-number, ← c .before .before .varint .ensures, c .enum-told4 .given .1)
+returns-5 c = rw (read-number, ← c .before .before .before .before .before .before .before .before .before .before .before .before .before .before .before .le-u8 .ensures, c .before .before .before .before .before .before .before .before .before .before .before .before .before .version .given .1, eq-eqb _ _ (c .before .before .before .before .before .before .before .before .before .before .before .if1 .left), read-number, ← c .before .before .before .before .before .before .before .before .before .before .le-u82 .ensures, c .before .before .before .before .before .before .before .before .flags .given .1, read-bind, flag-0, ← c .before .before .before .before .before .before .cond-u64 .ensures, c .before .before .before .before .index .given .1, read-bind, ← c .before .before .address .ensures, c .enum-told4 .given .1)
 
-varint-requires-2 : tie.Need-varint-requires-2
-varint-requires-2 c κs = search needs
+address-requires-2 : tie.Need-address-requires-2
+address-requires-2 c κs = search needs
 
 enum-known-names : tie.Need-enum-known-names
 enum-known-names c = search needs
@@ -74,10 +74,10 @@ enum-told-5 c = search needs
 
 returns-6 : tie.Need-returns-6
 unfolding linkInfo
-returns-6 c = rw (read-number, ← c .before .before .before .before .before .before .before .before .before .before .before .before .before .before .before .before .before .before .before .le-u8 .ensures, c .before .before .before .before .before .before .before .before .before .before .before .before .before .before .before .before .before .version .given .1, eq-eqb _ _ (c .before .before .before .before .before .before .before .before .before .before .before .before .before .before .before .if1 .left), read-number, ← c .before .before .before .before .before .before .before .before .before .before .before .before .before .before .le-u82 .ensures, c .before .before .before .before .before .before .before .before .before .before .before .before .flags .given .1, read-bind, flag-0, ← c .before .before .before .before .before .before .before .before .before .before .cond-varint .ensures, c .before .before .before .before .before .before .before .before .index .given .1, read-number, ← c .before .before .before .before .before .before .varint .ensures, c .before .before .before .before .heap .given .1, read-number, ← c .before .before .varint2 .ensures, c .enum-told5 .given .1)
+returns-6 c = rw (read-number, ← c .before .before .before .before .before .before .before .before .before .before .before .before .before .before .before .before .before .before .before .le-u8 .ensures, c .before .before .before .before .before .before .before .before .before .before .before .before .before .before .before .before .before .version .given .1, eq-eqb _ _ (c .before .before .before .before .before .before .before .before .before .before .before .before .before .before .before .if1 .left), read-number, ← c .before .before .before .before .before .before .before .before .before .before .before .before .before .before .le-u82 .ensures, c .before .before .before .before .before .before .before .before .before .before .before .before .flags .given .1, read-bind, flag-0, ← c .before .before .before .before .before .before .before .before .before .before .cond-u64 .ensures, c .before .before .before .before .before .before .before .before .index .given .1, read-bind, ← c .before .before .before .before .before .before .address .ensures, c .before .before .before .before .heap .given .1, read-bind, ← c .before .before .address2 .ensures, c .enum-told5 .given .1)
 
-cond-varint-requires-2 : tie.Need-cond-varint-requires-2
-cond-varint-requires-2 c κs = search needs
+cond-address-requires : tie.Need-cond-address-requires
+cond-address-requires c κs = search needs
 
 enum-known-order : tie.Need-enum-known-order
 enum-known-order c = search needs
@@ -87,17 +87,17 @@ enum-told-6 c = search needs
 
 returns-7 : tie.Need-returns-7
 unfolding linkInfo
-returns-7 c = rw (read-number, ← c .before .before .before .before .before .before .before .before .before .before .before .before .before .before .before .before .before .before .before .before .before .before .before .le-u8 .ensures, c .before .before .before .before .before .before .before .before .before .before .before .before .before .before .before .before .before .before .before .before .before .version .given .1, eq-eqb _ _ (c .before .before .before .before .before .before .before .before .before .before .before .before .before .before .before .before .before .before .before .if1 .left), read-number, ← c .before .before .before .before .before .before .before .before .before .before .before .before .before .before .before .before .before .before .le-u82 .ensures, c .before .before .before .before .before .before .before .before .before .before .before .before .before .before .before .before .flags .given .1, read-bind, flag-0, ← c .before .before .before .before .before .before .before .before .before .before .before .before .before .before .cond-varint .ensures, c .before .before .before .before .before .before .before .before .before .before .before .before .index .given .1, read-number, ← c .before .before .before .before .before .before .before .before .before .before .varint .ensures, c .before .before .before .before .before .before .before .before .heap .given .1, read-number, ← c .before .before .before .before .before .before .varint2 .ensures, c .before .before .before .before .names .given .1, read-bind, flag-1, ← c .before .before .cond-varint2 .ensures, c .enum-told6 .given .1)
+returns-7 c = rw (read-number, ← c .before .before .before .before .before .before .before .before .before .before .before .before .before .before .before .before .before .before .before .before .before .before .before .le-u8 .ensures, c .before .before .before .before .before .before .before .before .before .before .before .before .before .before .before .before .before .before .before .before .before .version .given .1, eq-eqb _ _ (c .before .before .before .before .before .before .before .before .before .before .before .before .before .before .before .before .before .before .before .if1 .left), read-number, ← c .before .before .before .before .before .before .before .before .before .before .before .before .before .before .before .before .before .before .le-u82 .ensures, c .before .before .before .before .before .before .before .before .before .before .before .before .before .before .before .before .flags .given .1, read-bind, flag-0, ← c .before .before .before .before .before .before .before .before .before .before .before .before .before .before .cond-u64 .ensures, c .before .before .before .before .before .before .before .before .before .before .before .before .index .given .1, read-bind, ← c .before .before .before .before .before .before .before .before .before .before .address .ensures, c .before .before .before .before .before .before .before .before .heap .given .1, read-bind, ← c .before .before .before .before .before .before .address2 .ensures, c .before .before .before .before .names .given .1, read-bind, flag-1, ← c .before .before .cond-address .ensures, c .enum-told6 .given .1)
 
 some-u64-requires : tie.Need-some-u64-requires
 some-u64-requires c κs = search needs
 
-some-u64-requires-2 : tie.Need-some-u64-requires-2
-some-u64-requires-2 c κs = search needs
+some-address-requires : tie.Need-some-address-requires
+some-address-requires c κs = search needs
 
 returns-8 : tie.Need-returns-8
 unfolding linkInfo
-returns-8 c = rw (read-number, ← c .before .before .before .before .before .before .before .before .before .before .before .before .before .before .before .before .before .before .before .before .before .before .before .before .before .before .le-u8 .ensures, c .before .before .before .before .before .before .before .before .before .before .before .before .before .before .before .before .before .before .before .before .before .before .before .before .version .given .1, eq-eqb _ _ (c .before .before .before .before .before .before .before .before .before .before .before .before .before .before .before .before .before .before .before .before .before .before .if1 .left), read-number, ← c .before .before .before .before .before .before .before .before .before .before .before .before .before .before .before .before .before .before .before .before .before .le-u82 .ensures, c .before .before .before .before .before .before .before .before .before .before .before .before .before .before .before .before .before .before .before .flags .given .1, read-bind, flag-0, ← c .before .before .before .before .before .before .before .before .before .before .before .before .before .before .before .before .before .cond-varint .ensures, c .before .before .before .before .before .before .before .before .before .before .before .before .before .before .before .index .given .1, read-number, ← c .before .before .before .before .before .before .before .before .before .before .before .before .before .varint .ensures, c .before .before .before .before .before .before .before .before .before .before .before .heap .given .1, read-number, ← c .before .before .before .before .before .before .before .before .before .varint2 .ensures, c .before .before .before .before .before .before .before .names .given .1, read-bind, flag-1, ← c .before .before .before .before .before .cond-varint2 .ensures, c .before .before .before .order .given .1, ← c .before .some-u64 .ensures, ← c .some-u642 .ensures, read-done)
+returns-8 c = rw (read-number, ← c .before .before .before .before .before .before .before .before .before .before .before .before .before .before .before .before .before .before .before .before .before .before .before .before .before .before .le-u8 .ensures, c .before .before .before .before .before .before .before .before .before .before .before .before .before .before .before .before .before .before .before .before .before .before .before .before .version .given .1, eq-eqb _ _ (c .before .before .before .before .before .before .before .before .before .before .before .before .before .before .before .before .before .before .before .before .before .before .if1 .left), read-number, ← c .before .before .before .before .before .before .before .before .before .before .before .before .before .before .before .before .before .before .before .before .before .le-u82 .ensures, c .before .before .before .before .before .before .before .before .before .before .before .before .before .before .before .before .before .before .before .flags .given .1, read-bind, flag-0, ← c .before .before .before .before .before .before .before .before .before .before .before .before .before .before .before .before .before .cond-u64 .ensures, c .before .before .before .before .before .before .before .before .before .before .before .before .before .before .before .index .given .1, read-bind, ← c .before .before .before .before .before .before .before .before .before .before .before .before .before .address .ensures, c .before .before .before .before .before .before .before .before .before .before .before .heap .given .1, read-bind, ← c .before .before .before .before .before .before .before .before .before .address2 .ensures, c .before .before .before .before .before .before .before .names .given .1, read-bind, flag-1, ← c .before .before .before .before .before .cond-address .ensures, c .before .before .before .order .given .1, ← c .before .some-u64 .ensures, ← c .some-address .ensures, read-done)
 
 pub message-link-info-spec : {M : Type 1} → statement M
 message-link-info-spec =
@@ -112,22 +112,22 @@ message-link-info-spec =
     enum-known-flags
     enum-told-2
     returns-3
-    cond-varint-requires
+    cond-u64-requires
     enum-known-index
     enum-told-3
     returns-4
-    varint-requires
+    address-requires
     enum-known-heap
     enum-told-4
     returns-5
-    varint-requires-2
+    address-requires-2
     enum-known-names
     enum-told-5
     returns-6
-    cond-varint-requires-2
+    cond-address-requires
     enum-known-order
     enum-told-6
     returns-7
     some-u64-requires
-    some-u64-requires-2
+    some-address-requires
     returns-8)

@@ -2,9 +2,9 @@
 use Prim.Native.Nat.{_≤_}
 use mathlib.Core.Path.{_≡_}
 use native.Mathlib.Omega.{arith}
 use Rattle.helpers.specs.Facts.{past}
-use Rattle.ohdr_dataspace.proofs.unlimited.Statement.{statement}
-use Rattle.ohdr_dataspace.proofs.unlimited.Tie as tie
+use Rattle.helpers.proofs.all_ones.Statement.{statement}
+use Rattle.helpers.proofs.all_ones.Tie as tie
 
 -- no number below 8 is the width
 eight : (c : tie.At-match-rest) → 8 ≤ c .before .args .width
@@ -39,8 +39,8 @@ returns-8 c = rw (c .match .keys8)
 returns-9 : tie.Need-returns-9
 returns-9 c = let w : c .before .args .width ≡ 8 = omega (arith, eight c) in rw w
 
-pub unlimited-spec : {M : Type 1} → statement M
-unlimited-spec =
+pub all-ones-spec : {M : Type 1} → statement M
+all-ones-spec =
     tie.close
     (tie.spec
     returns
