@@ -10,7 +10,7 @@ use Rattle.data_object_words.specs.Handed.{Handed}
 
 -- the number of a refusal, and no other word
 abbrev pub refusedWords : ℕ → List ℕ
-refusedWords r = r ∷ replicate 53 0
+refusedWords r = r ∷ replicate 62 0
 
 -- Over a file and a table of n words, which ends as t, with the words w.
 module _ (file : List ℕ) (n : ℕ) (t w : List ℕ) where

@@ -12,7 +12,7 @@ ghost use Rattle.data_object_root.specs.Root.{refusedWords, HandedRoot};
 
 // The words of a file that is refused: the refusal's number, and nothing else.
 fn put_refusal(words: &mut [u64], refusal: Refusal)
-    requires { ⌜ length (now words) ≡ 54 ⌝ }
+    requires { ⌜ length (now words) ≡ 63 ⌝ }
     ensures { λ _. ⌜ now (words .exit) ≡ refusedWords (refusalNumber refusal) ⌝ }
 {
     clear_behind(words, 0);
@@ -21,7 +21,7 @@ fn put_refusal(words: &mut [u64], refusal: Refusal)
 
 // The root's object header: its messages in the table, and its words. A superblock that is refused
 // leaves the table all zero.
-pub fn root_words(file: &[u8], table: &mut [u64], words: &mut [u64; 54])
+pub fn root_words(file: &[u8], table: &mut [u64], words: &mut [u64; 63])
     ensures { λ _. ⌜ HandedRoot (now (file .entry)) (length (now (table .entry))) (now (table .exit)) (now (words .exit)) ⌝ }
 {
     match super_block(file) {

@@ -12,6 +12,10 @@ use Rattle.records.specs.declared.OptionU32.{OptionU32}
 use Rattle.records.specs.declared.OptionU32.the-variants as options32
 use Rattle.records.specs.declared.OptionU64.{OptionU64}
 use Rattle.records.specs.declared.OptionU64.the-variants as options64
+use Rattle.records.specs.declared.Address.{Address}
+use Rattle.records.specs.declared.Address.the-variants as addresses
+use Rattle.records.specs.declared.OptionAddress.{OptionAddress}
+use Rattle.records.specs.declared.OptionAddress.the-variants as optionAddresses
 use Rattle.records.specs.declared.DataFormat.{DataFormat}
 use Rattle.records.specs.declared.DataFormat.the-variants as formats
 use Rattle.records.specs.declared.OptionDataFormat.{OptionDataFormat}
@@ -22,7 +26,7 @@ use Rattle.records.specs.declared.DataType.{DataType}
 use Rattle.records.specs.declared.LinkInfo.{LinkInfo}
 use Rattle.records.specs.declared.GroupInfo.{GroupInfo}
 use Rattle.records.specs.declared.AttributeInfo.{AttributeInfo}
-use Rattle.records.specs.declared.Part.{Part}
+use Rattle.records.specs.declared.DataLayout.{DataLayout}
 use Rattle.data_object.specs.declared.Answer.{Answer}
 use Rattle.data_object.specs.declared.Answer.the-variants as answers
 use Rattle.data_object.specs.declared.DataObject.{DataObject}
@@ -51,6 +55,30 @@ value (options64.Some v) = v
 -- a field that a record has: 1 and its value; one that it lacks: 0 and 0
 abbrev pub optionalWords : OptionU64 → List ℕ
 optionalWords field = present field ∷ value field ∷ []
+
+abbrev pub undefined : Address → ℕ
+undefined addresses.Undefined = 1
+undefined (addresses.Number n) = 0
+
+abbrev pub numberOf : Address → ℕ
+numberOf addresses.Undefined = 0
+numberOf (addresses.Number n) = n
+
+-- the undefined address: 1 and 0; any other: 0 and its number
+abbrev pub addressWords : Address → List ℕ
+addressWords address = undefined address ∷ numberOf address ∷ []
+
+abbrev pub presentAddress : OptionAddress → ℕ
+presentAddress optionAddresses.None = 0
+presentAddress (optionAddresses.Some a) = 1
+
+abbrev pub addressIn : OptionAddress → Address
+addressIn optionAddresses.None = addresses.Number 0
+addressIn (optionAddresses.Some a) = a
+
+-- an address that a record has: 1 and its words; one that it lacks: zeros
+abbrev pub optionalAddressWords : OptionAddress → List ℕ
+optionalAddressWords field = presentAddress field ∷ addressWords (addressIn field)
 
 -- the count and the four places of sizes
 abbrev pub dimensionsWords : Dimensions → List ℕ
@@ -84,7 +112,7 @@ abbrev pub linkInfoWords : LinkInfo → List ℕ
 linkInfoWords l =
     l .flags
     ∷ (optionalWords (l .«maximum_creation_index»)
-    ++ (l .«fractal_heap_address» ∷ l .«address_btree_index» ∷ optionalWords (l .«address_btree_order»)))
+    ++ (addressWords (l .«fractal_heap_address») ++ (addressWords (l .«address_btree_index») ++ optionalAddressWords (l .«address_btree_order»))))
 
 abbrev pub groupInfoWords : GroupInfo → List ℕ
 groupInfoWords g =
@@ -97,13 +125,12 @@ abbrev pub attributeInfoWords : AttributeInfo → List ℕ
 attributeInfoWords a =
     a .flags
     ∷ a .«maximum_creation_index»
-    ∷ a .«fractal_heap_address»
-    ∷ a .«attribute_name_btree»
-    ∷ a .«attribute_creation_order_btree»
-    ∷ []
+    ∷ (addressWords (a .«fractal_heap_address»)
+    ++ (addressWords (a .«attribute_name_btree») ++ addressWords (a .«attribute_creation_order_btree»)))
 
-abbrev pub dataWords : Part → List ℕ
-dataWords p = p .position ∷ p .length ∷ []
+-- the address, and then the data
+abbrev pub dataLayoutWords : DataLayout → List ℕ
+dataLayoutWords l = optionalAddressWords (l .address) ++ (l .«data» .position ∷ l .«data» .length ∷ [])
 
 -- 0, next position and entries, or the refusal's number and zeros
 abbrev pub answerWords : Answer → List ℕ
@@ -116,4 +143,4 @@ wordsOf o =
     ++ (o .rows
     ∷ (dataSpaceWords (o .ds)
     ++ (dataTypeWords (o .dt)
-    ++ (linkInfoWords (o .li) ++ (groupInfoWords (o .gi) ++ (attributeInfoWords (o .ai) ++ dataWords (o .«data»)))))))
+    ++ (linkInfoWords (o .li) ++ (groupInfoWords (o .gi) ++ (attributeInfoWords (o .ai) ++ dataLayoutWords (o .layout)))))))

@@ -1,26 +1,28 @@
-// The words of a decoded object header, for what takes numbers alone: 54 of them, in a lent array.
+// The words of a decoded object header, for what takes numbers alone: 63 of them, in a lent array.
 use data_object::Answer;
 use data_object::DataObject;
 use data_object::data_object;
+use records::Address;
 use records::AttributeInfo;
 use records::DataFormat;
+use records::DataLayout;
 use records::DataSpace;
 use records::DataType;
 use records::Dimensions;
 use records::GroupInfo;
 use records::LinkInfo;
+use records::OptionAddress;
 use records::OptionDataFormat;
 use records::OptionU8;
 use records::OptionU16;
 use records::OptionU32;
 use records::OptionU64;
-use records::Part;
 ghost use mathlib.Core.Path.{_≡_};
 ghost use mathlib.Core.List.{[], _∷_};
 ghost use Prim.Native.Nat.{_+_, _≤_};
 ghost use lib.ListN.{length};
 ghost use lib.Seq.{sets};
-ghost use Rattle.data_object_words.specs.Words.{wide8, wide16, wide32, optionalWords, dimensionsWords, dataSpaceWords, formatWords, dataTypeWords, linkInfoWords, groupInfoWords, attributeInfoWords, dataWords, answerWords, wordsOf};
+ghost use Rattle.data_object_words.specs.Words.{wide8, wide16, wide32, optionalWords, addressWords, optionalAddressWords, dimensionsWords, dataSpaceWords, formatWords, dataTypeWords, linkInfoWords, groupInfoWords, attributeInfoWords, dataLayoutWords, answerWords, wordsOf};
 ghost use Rattle.data_object_words.specs.Handed.{Handed};
 
 // A field that may be absent, as one of 64 bits.
@@ -51,8 +53,8 @@ fn wide_u32(field: OptionU32) -> OptionU64
     }
 }
 
-fn put_optional(words: &mut [u64; 54], at: usize, field: OptionU64)
-    requires { ⌜ at + 2 ≤ 54 ⌝ }
+fn put_optional(words: &mut [u64; 63], at: usize, field: OptionU64)
+    requires { ⌜ at + 2 ≤ 63 ⌝ }
     ensures { λ _. ⌜ now (words .exit) ≡ sets (now (words .entry)) at (optionalWords field) ⌝ }
 {
     match field {
@@ -67,8 +69,41 @@ fn put_optional(words: &mut [u64; 54], at: usize, field: OptionU64)
     }
 }
 
-fn put_dimensions(words: &mut [u64; 54], at: usize, dimensions: Dimensions)
-    requires { ⌜ at + 5 ≤ 54 ⌝ }
+// Whether the address is undefined, and its number, which is 0 where it is.
+fn put_address(words: &mut [u64; 63], at: usize, address: Address)
+    requires { ⌜ at + 2 ≤ 63 ⌝ }
+    ensures { λ _. ⌜ now (words .exit) ≡ sets (now (words .entry)) at (addressWords address) ⌝ }
+{
+    match address {
+        Address::Undefined => {
+            words[at] = 1;
+            words[at + 1] = 0;
+        }
+        Address::Number(number) => {
+            words[at] = 0;
+            words[at + 1] = number;
+        }
+    }
+}
+
+fn put_optional_address(words: &mut [u64; 63], at: usize, field: OptionAddress)
+    requires { ⌜ at + 3 ≤ 63 ⌝ }
+    ensures { λ _. ⌜ now (words .exit) ≡ sets (now (words .entry)) at (optionalAddressWords field) ⌝ }
+{
+    match field {
+        OptionAddress::None => {
+            words[at] = 0;
+            put_address(words, at + 1, Address::Number(0));
+        }
+        OptionAddress::Some(address) => {
+            words[at] = 1;
+            put_address(words, at + 1, address);
+        }
+    }
+}
+
+fn put_dimensions(words: &mut [u64; 63], at: usize, dimensions: Dimensions)
+    requires { ⌜ at + 5 ≤ 63 ⌝ }
     ensures { λ _. ⌜ now (words .exit) ≡ sets (now (words .entry)) at (dimensionsWords dimensions) ⌝ }
 {
     words[at] = dimensions.count as u64;
@@ -78,7 +113,7 @@ fn put_dimensions(words: &mut [u64; 54], at: usize, dimensions: Dimensions)
     words[at + 4] = dimensions.sizes[3];
 }
 
-fn put_data_space(words: &mut [u64; 54], space: DataSpace)
+fn put_data_space(words: &mut [u64; 63], space: DataSpace)
     ensures { λ _. ⌜ now (words .exit) ≡ sets (now (words .entry)) 4 (dataSpaceWords space) ⌝ }
 {
     let kind = space.kind;
@@ -91,7 +126,7 @@ fn put_data_space(words: &mut [u64; 54], space: DataSpace)
 
 // The kind of a format and its seven fields.
 fn put_format_fields(
-    words: &mut [u64; 54],
+    words: &mut [u64; 63],
     kind: u64,
     bit_offset: u16,
     bit_precision: u16,
@@ -113,7 +148,7 @@ fn put_format_fields(
     words[30] = exponent_bias as u64;
 }
 
-fn put_format(words: &mut [u64; 54], format: OptionDataFormat)
+fn put_format(words: &mut [u64; 63], format: OptionDataFormat)
     ensures { λ _. ⌜ now (words .exit) ≡ sets (now (words .entry)) 23 (formatWords format) ⌝ }
 {
     let OptionDataFormat::Some(known) = format else {
@@ -147,7 +182,7 @@ fn put_format(words: &mut [u64; 54], format: OptionDataFormat)
     }
 }
 
-fn put_data_type(words: &mut [u64; 54], datatype: DataType)
+fn put_data_type(words: &mut [u64; 63], datatype: DataType)
     ensures { λ _. ⌜ now (words .exit) ≡ sets (now (words .entry)) 18 (dataTypeWords datatype) ⌝ }
 {
     let list_size = datatype.list_size;
@@ -159,47 +194,54 @@ fn put_data_type(words: &mut [u64; 54], datatype: DataType)
     put_format(words, format);
 }
 
-fn put_link_info(words: &mut [u64; 54], info: LinkInfo)
+fn put_link_info(words: &mut [u64; 63], info: LinkInfo)
     ensures { λ _. ⌜ now (words .exit) ≡ sets (now (words .entry)) 31 (linkInfoWords info) ⌝ }
 {
     let maximum_creation_index = info.maximum_creation_index;
+    let fractal_heap_address = info.fractal_heap_address;
+    let address_btree_index = info.address_btree_index;
     let address_btree_order = info.address_btree_order;
     words[31] = info.flags as u64;
     put_optional(words, 32, maximum_creation_index);
-    words[34] = info.fractal_heap_address;
-    words[35] = info.address_btree_index;
-    put_optional(words, 36, address_btree_order);
+    put_address(words, 34, fractal_heap_address);
+    put_address(words, 36, address_btree_index);
+    put_optional_address(words, 38, address_btree_order);
 }
 
-fn put_group_info(words: &mut [u64; 54], info: GroupInfo)
-    ensures { λ _. ⌜ now (words .exit) ≡ sets (now (words .entry)) 38 (groupInfoWords info) ⌝ }
+fn put_group_info(words: &mut [u64; 63], info: GroupInfo)
+    ensures { λ _. ⌜ now (words .exit) ≡ sets (now (words .entry)) 41 (groupInfoWords info) ⌝ }
 {
     let maximum_compact_value = info.maximum_compact_value;
     let minimum_dense_value = info.minimum_dense_value;
     let number_of_entries = info.number_of_entries;
     let length_of_entries = info.length_of_entries;
-    words[38] = info.flags as u64;
-    put_optional(words, 39, wide_u16(maximum_compact_value));
-    put_optional(words, 41, wide_u16(minimum_dense_value));
-    put_optional(words, 43, wide_u16(number_of_entries));
-    put_optional(words, 45, wide_u16(length_of_entries));
+    words[41] = info.flags as u64;
+    put_optional(words, 42, wide_u16(maximum_compact_value));
+    put_optional(words, 44, wide_u16(minimum_dense_value));
+    put_optional(words, 46, wide_u16(number_of_entries));
+    put_optional(words, 48, wide_u16(length_of_entries));
 }
 
-fn put_attribute_info(words: &mut [u64; 54], info: AttributeInfo)
-    ensures { λ _. ⌜ now (words .exit) ≡ sets (now (words .entry)) 47 (attributeInfoWords info) ⌝ }
+fn put_attribute_info(words: &mut [u64; 63], info: AttributeInfo)
+    ensures { λ _. ⌜ now (words .exit) ≡ sets (now (words .entry)) 50 (attributeInfoWords info) ⌝ }
 {
-    words[47] = info.flags as u64;
-    words[48] = info.maximum_creation_index;
-    words[49] = info.fractal_heap_address;
-    words[50] = info.attribute_name_btree;
-    words[51] = info.attribute_creation_order_btree;
+    let fractal_heap_address = info.fractal_heap_address;
+    let attribute_name_btree = info.attribute_name_btree;
+    let attribute_creation_order_btree = info.attribute_creation_order_btree;
+    words[50] = info.flags as u64;
+    words[51] = info.maximum_creation_index;
+    put_address(words, 52, fractal_heap_address);
+    put_address(words, 54, attribute_name_btree);
+    put_address(words, 56, attribute_creation_order_btree);
 }
 
-fn put_data(words: &mut [u64; 54], part: Part)
-    ensures { λ _. ⌜ now (words .exit) ≡ sets (now (words .entry)) 52 (dataWords part) ⌝ }
+fn put_data_layout(words: &mut [u64; 63], layout: DataLayout)
+    ensures { λ _. ⌜ now (words .exit) ≡ sets (now (words .entry)) 58 (dataLayoutWords layout) ⌝ }
 {
-    words[52] = part.position as u64;
-    words[53] = part.length as u64;
+    let address = layout.address;
+    put_optional_address(words, 58, address);
+    words[61] = layout.data.position as u64;
+    words[62] = layout.data.length as u64;
 }
 
 // Takes the array as a slice, since only a slice tells its caller how long it is.
@@ -223,7 +265,7 @@ fn put_answer(words: &mut [u64], answer: Answer)
 }
 
 // All the words of an object, whatever stood in the array before.
-fn put_words(object: DataObject, words: &mut [u64; 54])
+fn put_words(object: DataObject, words: &mut [u64; 63])
     ensures { λ _. ⌜ now (words .exit) ≡ wordsOf object ⌝ }
 {
     let answer = object.answer;
@@ -234,7 +276,7 @@ fn put_words(object: DataObject, words: &mut [u64; 54])
     put_link_info(words, object.li);
     put_group_info(words, object.gi);
     put_attribute_info(words, object.ai);
-    put_data(words, object.data);
+    put_data_layout(words, object.layout);
 }
 
 // An object header at a position: its messages in the table, and its words. Whoever decodes a header
@@ -246,7 +288,7 @@ pub fn header_words(
     length_width: u64,
     end_of_file: u64,
     table: &mut [u64],
-    words: &mut [u64; 54],
+    words: &mut [u64; 63],
 )
     ensures { λ _. ⌜ Handed (now (file .entry)) «offset_width» «length_width» «end_of_file» position (length (now (table .entry))) (now (table .exit)) (now (words .exit)) ⌝ }
 {

@@ -38,7 +38,7 @@ module _ (file : List ℕ) (p : Part) where
 -- Of a header that is refused every word but the number is 0, and so is the whole table.
 module _ {file : List ℕ} {offsets lengths end at n : ℕ} {t w : List ℕ} (h : Handed file offsets lengths end at n t w) where
   by-answer : (a : Answer) → h .object .answer ≡ a → Meant file offsets lengths end at n a (h .object) t → (getD w 0 0 ≡ 0 → ⊥)
-      → (w ≡ getD w 0 0 ∷ replicate 53 0) × (t ≡ replicate n 0)
+      → (w ≡ getD w 0 0 ∷ replicate 62 0) × (t ≡ replicate n 0)
   by-answer (answers.Read next count) e m f = absurd (f (rw (h .words, e)))
   by-answer (answers.Refused x) e m f = (
     rw (
@@ -50,19 +50,19 @@ module _ {file : List ℕ} {offsets lengths end at n : ℕ} {t w : List ℕ} (h 
       ap (λ (v : Wins). v .li) (m .records),
       ap (λ (v : Wins). v .gi) (m .records),
       ap (λ (v : Wins). v .ai) (m .records),
-      ap (λ (v : Wins). v .«data») (m .records),
+      ap (λ (v : Wins). v .layout) (m .records),
     ),
     m .table,
   )
 
-  pub refused-words : (getD w 0 0 ≡ 0 → ⊥) → (w ≡ getD w 0 0 ∷ replicate 53 0) × (t ≡ replicate n 0)
+  pub refused-words : (getD w 0 0 ≡ 0 → ⊥) → (w ≡ getD w 0 0 ∷ replicate 62 0) × (t ≡ replicate n 0)
   refused-words f = by-answer (h .object .answer) refl (h .decoded .meant) f
 
 -- The same of a file whose superblock or whose root's header is refused.
 module _ (file : List ℕ) (n : ℕ) (t w : List ℕ) where
-  by-block : (o : Out SuperBlock) → HandedBy file n t w o → (getD w 0 0 ≡ 0 → ⊥) → (w ≡ getD w 0 0 ∷ replicate 53 0) × (t ≡ replicate n 0)
+  by-block : (o : Out SuperBlock) → HandedBy file n t w o → (getD w 0 0 ≡ 0 → ⊥) → (w ≡ getD w 0 0 ∷ replicate 62 0) × (t ≡ replicate n 0)
   by-block (found b q) h f = refused-words h f
   by-block (refused r) h f = (rw (h .1), h .0)
 
-  pub refused-root : HandedRoot file n t w → (getD w 0 0 ≡ 0 → ⊥) → (w ≡ getD w 0 0 ∷ replicate 53 0) × (t ≡ replicate n 0)
+  pub refused-root : HandedRoot file n t w → (getD w 0 0 ≡ 0 → ⊥) → (w ≡ getD w 0 0 ∷ replicate 62 0) × (t ≡ replicate n 0)
   refused-root h f = by-block (superBlockOf file) h f

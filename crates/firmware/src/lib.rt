@@ -5,6 +5,7 @@ use data_object_words::header_words;
 use listing_text::list;
 use lookup::LookupAnswer;
 use lookup::lookup;
+use records::Address;
 use super_block::SuperBlockRead;
 use super_block::super_block;
 ghost use mathlib.Core.Path.{_≡_};
@@ -15,7 +16,7 @@ ghost use Rattle.super_block.specs.Answers.{superBlockOut};
 ghost use Rattle.data_object_words.specs.Handed.{Handed};
 ghost use Rattle.data_object_root.specs.Root.{HandedRoot};
 ghost use Rattle.firmware.specs.Words.{foundRow, lookupOf};
-ghost use Rattle.firmware.specs.Blocks.{blockOf};
+ghost use Rattle.firmware.specs.Blocks.{addressOf, blockOf};
 ghost use Rattle.firmware.specs.Handed.{HandedRow, HandedPart};
 
 // Bytes of the file, from a position on.
@@ -25,6 +26,13 @@ pub struct PartWords {
     pub length: u64,
 }
 
+// An address: whether it is undefined (1 or 0), and its number, which is 0 where it is.
+#[repr(C)]
+pub struct AddressWords {
+    pub undefined: u64,
+    pub number: u64,
+}
+
 // A superblock: 0 or the number of its refusal, and its fields, which are 0 where it is refused.
 #[repr(C)]
 pub struct SuperBlockWords {
@@ -32,7 +40,7 @@ pub struct SuperBlockWords {
     pub size_of_offsets: u64,
     pub size_of_lengths: u64,
     pub base_address: u64,
-    pub superblock_extension_address: u64,
+    pub superblock_extension_address: AddressWords,
     pub end_of_file_address: u64,
     pub root_group_object_header_address: u64,
 }
@@ -68,31 +76,50 @@ fn lookup_words(answer: LookupAnswer) -> LookupWords
     }
 }
 
+fn address_words(address: Address) -> AddressWords
+    ensures { λ r. ⌜ r ≡ addressOf address ⌝ }
+{
+    match address {
+        Address::Undefined => AddressWords {
+            undefined: 1,
+            number: 0,
+        },
+        Address::Number(number) => AddressWords {
+            undefined: 0,
+            number,
+        },
+    }
+}
+
 fn super_block_words(answer: SuperBlockRead) -> SuperBlockWords
     ensures { λ r. ⌜ r ≡ blockOf (superBlockOut answer) ⌝ }
 {
     match answer {
         SuperBlockRead::Refused(refusal) => {
             let number = refusal.number();
+            let none = address_words(Address::Number(0));
             SuperBlockWords {
                 refused: number,
                 size_of_offsets: 0,
                 size_of_lengths: 0,
                 base_address: 0,
-                superblock_extension_address: 0,
+                superblock_extension_address: none,
                 end_of_file_address: 0,
                 root_group_object_header_address: 0,
             }
         }
-        SuperBlockRead::Read(block, _) => SuperBlockWords {
-            refused: 0,
-            size_of_offsets: block.size_of_offsets as u64,
-            size_of_lengths: block.size_of_lengths as u64,
-            base_address: block.base_address,
-            superblock_extension_address: block.superblock_extension_address,
-            end_of_file_address: block.end_of_file_address,
-            root_group_object_header_address: block.root_group_object_header_address,
-        },
+        SuperBlockRead::Read(block, _) => {
+            let extension = block.superblock_extension_address;
+            SuperBlockWords {
+                refused: 0,
+                size_of_offsets: block.size_of_offsets as u64,
+                size_of_lengths: block.size_of_lengths as u64,
+                base_address: block.base_address,
+                superblock_extension_address: address_words(extension),
+                end_of_file_address: block.end_of_file_address,
+                root_group_object_header_address: block.root_group_object_header_address,
+            }
+        }
     }
 }
 
@@ -108,7 +135,7 @@ pub extern "C" fn dowringaf_super_block(file: &[u8]) -> SuperBlockWords
 // The root's object header of a plain file: its messages in the table, and its words in the order
 // of `wordsOf`.
 #[no_mangle]
-pub extern "C" fn dowringaf_root_object(file: &[u8], table: &mut [u64], words: &mut [u64; 54])
+pub extern "C" fn dowringaf_root_object(file: &[u8], table: &mut [u64], words: &mut [u64; 63])
     ensures { λ _. ⌜ HandedRoot (now (file .entry)) (length (now (table .entry))) (now (table .exit)) (now (words .exit)) ⌝ }
 {
     root_words(file, table, words);
@@ -124,7 +151,7 @@ pub extern "C" fn dowringaf_data_object(
     length_width: u64,
     end_of_file: u64,
     table: &mut [u64],
-    words: &mut [u64; 54],
+    words: &mut [u64; 63],
 )
     ensures { λ _. ⌜ Handed (now (file .entry)) «offset_width» «length_width» «end_of_file» position (length (now (table .entry))) (now (table .exit)) (now (words .exit)) ⌝ }
 {

@@ -70,7 +70,8 @@ fn addresses(file: &[u8], at: usize, size_of_offsets: u8, size_of_lengths: u8) -
     let ReadU64::Value(end_of_file_address, at) = defined_address(file, at, width) else {
         return SuperBlockRead::Refused(Refusal::Short);
     };
-    let ReadU64::Value(root_group_object_header_address, at) = defined_address(file, at, width) else {
+    let ReadU64::Value(root_group_object_header_address, at) = defined_address(file, at, width)
+    else {
         return SuperBlockRead::Refused(Refusal::Short);
     };
     let ReadU32::Value(_, at) = le_u32(file, at) else {

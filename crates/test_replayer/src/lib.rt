@@ -96,7 +96,7 @@ fn replays(file: &[u8], lead: Lead, expected: &[u8]) -> bool
     ensures { λ r. ⌜ Replays (now (expected .entry)) (now (file .entry)) lead r ⌝ }
 {
     let mut table = [0u64; 64 * ROW_WORDS];
-    let mut words = [0u64; 54];
+    let mut words = [0u64; 63];
     header_words(
         file,
         lead.position,

@@ -50,7 +50,7 @@ figuresOf words first (suc n) = figuresOf words first n ++ field true (getD word
 unfoldable pub wordsLine : List ℕ → ℕ → ℕ → List ℕ
 wordsLine words first last = figuresOf words first (last - first) ++ field true (getD words last 0) 10
 
--- `dataspace,`, `datatype,`, `link_info,`, `group_info,` and `attribute_info,`, each with the words of the record
+-- `dataspace,`, `datatype,`, `link_info,`, `group_info,` and `attribute_info,`, each with the words of the record, and `layout,` with those of its address
 unfoldable pub recordsOf : List ℕ → List ℕ
 recordsOf words =
     (100 ∷ 97 ∷ 116 ∷ 97 ∷ 115 ∷ 112 ∷ 97 ∷ 99 ∷ 101 ∷ 44 ∷ [])
@@ -58,10 +58,12 @@ recordsOf words =
     ++ ((100 ∷ 97 ∷ 116 ∷ 97 ∷ 116 ∷ 121 ∷ 112 ∷ 101 ∷ 44 ∷ [])
     ++ (wordsLine words 18 30
     ++ ((108 ∷ 105 ∷ 110 ∷ 107 ∷ 95 ∷ 105 ∷ 110 ∷ 102 ∷ 111 ∷ 44 ∷ [])
-    ++ (wordsLine words 31 37
+    ++ (wordsLine words 31 40
     ++ ((103 ∷ 114 ∷ 111 ∷ 117 ∷ 112 ∷ 95 ∷ 105 ∷ 110 ∷ 102 ∷ 111 ∷ 44 ∷ [])
-    ++ (wordsLine words 38 46
-    ++ ((97 ∷ 116 ∷ 116 ∷ 114 ∷ 105 ∷ 98 ∷ 117 ∷ 116 ∷ 101 ∷ 95 ∷ 105 ∷ 110 ∷ 102 ∷ 111 ∷ 44 ∷ []) ++ wordsLine words 47 51))))))))
+    ++ (wordsLine words 41 49
+    ++ ((97 ∷ 116 ∷ 116 ∷ 114 ∷ 105 ∷ 98 ∷ 117 ∷ 116 ∷ 101 ∷ 95 ∷ 105 ∷ 110 ∷ 102 ∷ 111 ∷ 44 ∷ [])
+    ++ (wordsLine words 50 57
+    ++ ((108 ∷ 97 ∷ 121 ∷ 111 ∷ 117 ∷ 116 ∷ 44 ∷ []) ++ wordsLine words 58 60))))))))))
 
 -- `refused`, whatever the number
 unfoldable pub refusedOf : List ℕ
@@ -74,7 +76,7 @@ answerOf file table words =
     ++ (wordsLine words 1 3
     ++ (rowLines file (firstRows table (getD words 3 0))
     ++ (recordsOf words
-    ++ dataOf file (record { position = getD words 52 0; length = getD words 53 0 }))))
+    ++ dataOf file (record { position = getD words 61 0; length = getD words 62 0 }))))
 
 -- the report of a header whose words these are, in the order of `wordsOf`, and whose rows stand in the table
 unfoldable pub reportOf : List ℕ → List ℕ → List ℕ → List ℕ

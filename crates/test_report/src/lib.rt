@@ -119,11 +119,11 @@ fn expect_data(expected: &[u8], from: Matched, file: &[u8], part: Part) -> Match
 fn expect_words(
     expected: &[u8],
     from: Matched,
-    words: &[u64; 54],
+    words: &[u64; 63],
     first: usize,
     last: usize,
 ) -> Matched
-    requires { ⌜ (first ≤ last) × (last < 54) ⌝ }
+    requires { ⌜ (first ≤ last) × (last < 63) ⌝ }
     ensures { λ r. ⌜ Follows (now (expected .entry)) from r (wordsLine (now (words .entry)) first last) ⌝ }
 {
     let mut met = from;
@@ -135,8 +135,8 @@ fn expect_words(
     expect_field(expected, met, true, words[last], b'\n')
 }
 
-// A line for each record.
-fn expect_records(expected: &[u8], from: Matched, words: &[u64; 54]) -> Matched
+// A line for each record; a layout's data stand elsewhere.
+fn expect_records(expected: &[u8], from: Matched, words: &[u64; 63]) -> Matched
     ensures { λ r. ⌜ Follows (now (expected .entry)) from r (recordsOf (now (words .entry))) ⌝ }
 {
     let met = expect_bytes(expected, from, b"dataspace,");
@@ -144,16 +144,18 @@ fn expect_records(expected: &[u8], from: Matched, words: &[u64; 54]) -> Matched
     let met = expect_bytes(expected, met, b"datatype,");
     let met = expect_words(expected, met, words, 18, 30);
     let met = expect_bytes(expected, met, b"link_info,");
-    let met = expect_words(expected, met, words, 31, 37);
+    let met = expect_words(expected, met, words, 31, 40);
     let met = expect_bytes(expected, met, b"group_info,");
-    let met = expect_words(expected, met, words, 38, 46);
+    let met = expect_words(expected, met, words, 41, 49);
     let met = expect_bytes(expected, met, b"attribute_info,");
-    expect_words(expected, met, words, 47, 51)
+    let met = expect_words(expected, met, words, 50, 57);
+    let met = expect_bytes(expected, met, b"layout,");
+    expect_words(expected, met, words, 58, 60)
 }
 
 // How far the report of a header, given as its words and its table, stands at the start of what is
 // expected.
-pub fn expect_report(expected: &[u8], file: &[u8], table: &[u64], words: &[u64; 54]) -> Matched
+pub fn expect_report(expected: &[u8], file: &[u8], table: &[u64], words: &[u64; 63]) -> Matched
     requires { ⌜ getD (now words) 3 0 ≤ length (now table) / rowWords ⌝ }
     ensures { λ r. ⌜ Follows (now (expected .entry)) start r (reportOf (now (file .entry)) (now (table .entry)) (now (words .entry))) ⌝ }
 {
@@ -161,8 +163,8 @@ pub fn expect_report(expected: &[u8], file: &[u8], table: &[u64], words: &[u64; 
         return expect_bytes(expected, Matched::At(0), b"refused\n");
     }
     let part = Part {
-        position: words[52] as usize,
-        length: words[53] as usize,
+        position: words[61] as usize,
+        length: words[62] as usize,
     };
     let met = expect_bytes(expected, Matched::At(0), b"read,");
     let met = expect_words(expected, met, words, 1, 3);

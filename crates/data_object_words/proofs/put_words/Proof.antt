@@ -1,4 +1,4 @@
--- Each call sets the words of its record, and together they set all 54, so none of the old ones stays.
+-- Each call sets the words of its record, and together they set all 63, so none of the old ones stays.
 use native.Mathlib.Omega.{arith}
 use Rattle.data_object_words.specs.Laws.{put-whole}
 use borrow.Author.Needs.{needs}
@@ -26,11 +26,11 @@ put-group-info-requires c κs = search needs
 put-attribute-info-requires : tie.Need-put-attribute-info-requires
 put-attribute-info-requires c κs = search needs
 
-put-data-requires : tie.Need-put-data-requires
-put-data-requires c κs = search needs
+put-data-layout-requires : tie.Need-put-data-layout-requires
+put-data-layout-requires c κs = search needs
 
 returns : tie.Need-returns
-returns c = rw (c .put-data .ensures, c .before .before .put-attribute-info .ensures, c .before .before .before .before .put-group-info .ensures, c .before .before .before .before .before .before .put-link-info .ensures, c .before .before .before .before .before .before .before .before .put-data-type .ensures, c .before .before .before .before .before .before .before .before .before .before .put-data-space .ensures, c .before .before .before .before .before .before .before .before .before .before .before .before .put-answer .ensures) (put-whole (c .before .before .before .before .before .before .before .before .before .before .before .before .before .before .args .object) (c .before .before .before .before .before .before .before .before .before .before .before .before .before .before .args .words .now) (omega arith))
+returns c = rw (c .put-data-layout .ensures, c .before .before .put-attribute-info .ensures, c .before .before .before .before .put-group-info .ensures, c .before .before .before .before .before .before .put-link-info .ensures, c .before .before .before .before .before .before .before .before .put-data-type .ensures, c .before .before .before .before .before .before .before .before .before .before .put-data-space .ensures, c .before .before .before .before .before .before .before .before .before .before .before .before .put-answer .ensures) (put-whole (c .before .before .before .before .before .before .before .before .before .before .before .before .before .before .args .object) (c .before .before .before .before .before .before .before .before .before .before .before .before .before .before .args .words .now) (omega arith))
 
 pub put-words-spec : {M : Type 1} → statement M
 put-words-spec =
@@ -43,5 +43,5 @@ put-words-spec =
     put-link-info-requires
     put-group-info-requires
     put-attribute-info-requires
-    put-data-requires
+    put-data-layout-requires
     returns)

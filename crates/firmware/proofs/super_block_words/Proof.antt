@@ -9,20 +9,26 @@ enum-known-answer c = search needs
 number-requires : tie.Need-number-requires
 number-requires c κs = search needs
 
+address-words-requires : tie.Need-address-words-requires
+address-words-requires c κs = search needs
+
 enum-known-answer-2 : tie.Need-enum-known-answer-2
 enum-known-answer-2 c = search needs
 
-cast-t6 : tie.Need-cast-t6
-cast-t6 c = search needs
+cast-t9 : tie.Need-cast-t9
+cast-t9 c = search needs
 
-cast-t7 : tie.Need-cast-t7
-cast-t7 c = search needs
+cast-t10 : tie.Need-cast-t10
+cast-t10 c = search needs
+
+address-words-requires-2 : tie.Need-address-words-requires-2
+address-words-requires-2 c κs = search needs
 
 returns : tie.Need-returns
-returns c = rw (c .before .before .answer .given .1, c .number .ensures)
+returns c = rw (c .before .before .before .answer .given .1, c .before .number .ensures, c .address-words .ensures)
 
 returns-2 : tie.Need-returns-2
-returns-2 c = rw (c .before .before .before .answer2 .given .1)
+returns-2 c = rw (c .before .before .before .before .answer2 .given .1, c .address-words2 .ensures)
 
 pub super-block-words-spec : {M : Type 1} → statement M
 super-block-words-spec =
@@ -30,8 +36,10 @@ super-block-words-spec =
     (tie.spec
     enum-known-answer
     number-requires
+    address-words-requires
     enum-known-answer-2
-    cast-t6
-    cast-t7
+    cast-t9
+    cast-t10
+    address-words-requires-2
     returns
     returns-2)

@@ -50,9 +50,18 @@ expect-bytes-requires-5 c κs = search needs
 expect-words-requires-5 : tie.Need-expect-words-requires-5
 expect-words-requires-5 c κs = search needs
 
+slice-aggregate-expect-bytes-6 : tie.Need-slice-aggregate-expect-bytes-6
+slice-aggregate-expect-bytes-6 c = search needs
+
+expect-bytes-requires-6 : tie.Need-expect-bytes-requires-6
+expect-bytes-requires-6 c κs = search needs
+
+expect-words-requires-6 : tie.Need-expect-words-requires-6
+expect-words-requires-6 c κs = search needs
+
 returns : tie.Need-returns
 unfolding recordsOf
-returns c = then (c .before .before .before .before .before .before .before .before .before .before .before .before .before .expect-bytes .ensures) (then (c .before .before .before .before .before .before .before .before .before .before .before .before .expect-words .ensures) (then (c .before .before .before .before .before .before .before .before .before .before .expect-bytes2 .ensures) (then (c .before .before .before .before .before .before .before .before .before .expect-words2 .ensures) (then (c .before .before .before .before .before .before .before .expect-bytes3 .ensures) (then (c .before .before .before .before .before .before .expect-words3 .ensures) (then (c .before .before .before .before .expect-bytes4 .ensures) (then (c .before .before .before .expect-words4 .ensures) (then (c .before .expect-bytes5 .ensures) (c .expect-words5 .ensures)))))))))
+returns c = then (c .before .before .before .before .before .before .before .before .before .before .before .before .before .before .before .before .expect-bytes .ensures) (then (c .before .before .before .before .before .before .before .before .before .before .before .before .before .before .before .expect-words .ensures) (then (c .before .before .before .before .before .before .before .before .before .before .before .before .before .expect-bytes2 .ensures) (then (c .before .before .before .before .before .before .before .before .before .before .before .before .expect-words2 .ensures) (then (c .before .before .before .before .before .before .before .before .before .before .expect-bytes3 .ensures) (then (c .before .before .before .before .before .before .before .before .before .expect-words3 .ensures) (then (c .before .before .before .before .before .before .before .expect-bytes4 .ensures) (then (c .before .before .before .before .before .before .expect-words4 .ensures) (then (c .before .before .before .before .expect-bytes5 .ensures) (then (c .before .before .before .expect-words5 .ensures) (then (c .before .expect-bytes6 .ensures) (c .expect-words6 .ensures)))))))))))
 
 pub expect-records-spec : {M : Type 1} → statement M
 expect-records-spec =
@@ -73,4 +82,7 @@ expect-records-spec =
     slice-aggregate-expect-bytes-5
     expect-bytes-requires-5
     expect-words-requires-5
+    slice-aggregate-expect-bytes-6
+    expect-bytes-requires-6
+    expect-words-requires-6
     returns)
