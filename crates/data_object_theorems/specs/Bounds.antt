@@ -54,7 +54,7 @@ module _ (file : List ℕ) (s : State) where
   BoundedKept b (messages.dataSpace d) = Bounded d
   BoundedKept b (messages.linkInfo l) = Unit {0}
   BoundedKept b (messages.dataType t) = Unit {0}
-  BoundedKept b (messages.dataLayout p) = Unit {0}
+  BoundedKept b (messages.dataLayout d) = Unit {0}
   BoundedKept b (messages.groupInfo g) = Unit {0}
   BoundedKept b (messages.attribute a) = AttributeBounded b a
   BoundedKept b (messages.attributeInfo a) = Unit {0}
@@ -110,7 +110,7 @@ module _ (file : List ℕ) (s : State) where
       go (inr e) = kept-space p q d (rw (sym e) at h)
   bounded-kept type p q (messages.linkInfo l) h = tt
   bounded-kept type p q (messages.dataType t) h = tt
-  bounded-kept type p q (messages.dataLayout t) h = tt
+  bounded-kept type p q (messages.dataLayout d) h = tt
   bounded-kept type p q (messages.groupInfo g) h = tt
   bounded-kept type p q (messages.attribute a) h = go (typed file s type p q (messages.attribute a) h)
     where

@@ -5,12 +5,14 @@ use mathlib.Core.List.{List, [], _∷_, _++_}
 use Rattle.format.specs.Bytes.{le}
 use Rattle.format.specs.Format.{Out, found, refused, read, bind, times}
 use Rattle.ohdr_info.specs.Info.{cond, groupInfo}
+use Rattle.helpers.specs.Addresses.{address, definedAddress}
 use Rattle.ohdr_entry.specs.Continuations.{continuation}
+use Rattle.ohdr_storage.specs.Storage.{rawData, contiguous, dataLayout}
 use Rattle.ohdr_datatype.specs.DataTypes.{dataType, typeLayer, dataTypeHeader, knownType, knownClass, properties, plain}
 use Rattle.ohdr_dataspace.specs.DataSpaces.{dataSpace, dataSpaceHeader, kind, dimensions, dimensionsFrom, dimension, maximumSizes, dataSpaceSizes}
 use Rattle.grammar.specs.Grammar.{ochk, blockEnd, headerEnd}
 use Rattle.grammar.specs.Walk.{lent, hold, entryBy, runBy, blockBy, entryAt, runAt, walk}
-use Rattle.ohdr_entry.specs.Entries.{entry, prefix, creationOrder, closed, messageHeld, continuationHeld, body, plainBody}
+use Rattle.ohdr_entry.specs.Entries.{entry, prefix, creationOrder, closed, messageHeld, continuationHeld, body, plainBody, layoutBody}
 use Rattle.lookup3.specs.Lookup3.{plus, minus, rotate, mixLine, mix, finalLine, finalMix, addBlock, blocks, sumOf, sumMatches}
 use Rattle.data_object_header.specs.Headers.{ohdr, headerFields, header, decode}
 use Rattle.data_object.specs.Decoded.{counts}
@@ -50,7 +52,14 @@ typed size sum = opening ++ (12 ∷ 3 ∷ 8 ∷ 0 ∷ 0 ∷ 0x13 ∷ 0 ∷ 0 ∷
 abbrev continued : ℕ → List ℕ → List ℕ
 continued length sum = opening ++ (8 ∷ 16 ∷ 4 ∷ 0 ∷ 0 ∷ 19 ∷ 0 ∷ length ∷ 0 ∷ []) ++ sum ++ (0x4F ∷ 0x43 ∷ 0x48 ∷ 0x4B ∷ [])
 
--- the checksum of such a block of 8 bytes
+-- a continuation, and a contiguous layout of one byte, at 65,280 and a number of bytes more
+abbrev continuedFar : ℕ → List ℕ → List ℕ
+continuedFar low sum = opening ++ (8 ∷ 16 ∷ 4 ∷ 0 ∷ 0 ∷ low ∷ 0xFF ∷ 8 ∷ 0 ∷ []) ++ sum
+
+abbrev storedFar : ℕ → List ℕ → List ℕ
+storedFar low sum = opening ++ (10 ∷ 8 ∷ 6 ∷ 0 ∷ 0 ∷ 3 ∷ 1 ∷ low ∷ 0xFF ∷ 1 ∷ 0 ∷ []) ++ sum
+
+-- the checksum of a block of 8 bytes
 abbrev blockSum : List ℕ
 blockSum = 0x9D ∷ 0xD6 ∷ 0xB8 ∷ 0x85 ∷ []
 
@@ -73,6 +82,11 @@ marked =
     ∷ record { file = continued 8 (0x14 ∷ 0x9C ∷ 0x70 ∷ 0x6E ∷ []) ++ blockSum; offsets = 2; lengths = 2; end = 27; outcome = found 1 19 }
     ∷ record { file = continued 7 (0x72 ∷ 0x0A ∷ 0xF3 ∷ 0x4B ∷ []) ++ blockSum; offsets = 2; lengths = 2; end = 27; outcome = refused 19 }
     ∷ record { file = continued 9 (0x51 ∷ 0x29 ∷ 0xB9 ∷ 0xCF ∷ []) ++ blockSum; offsets = 2; lengths = 2; end = 27; outcome = refused 19 }
+    -- an undefined offset, and one below it, which lies past the file; the same of a data address. End-of-file is above both.
+    ∷ record { file = continuedFar 0xFF (0x80 ∷ 0xB4 ∷ 0x17 ∷ 0x6C ∷ []); offsets = 2; lengths = 2; end = 70000; outcome = refused 19 }
+    ∷ record { file = continuedFar 0xFE (0x46 ∷ 0x21 ∷ 0xA4 ∷ 0x4F ∷ []); offsets = 2; lengths = 2; end = 70000; outcome = refused 3 }
+    ∷ record { file = storedFar 0xFF (0xED ∷ 0xD4 ∷ 0x96 ∷ 0x89 ∷ []); offsets = 2; lengths = 2; end = 70000; outcome = found 1 21 }
+    ∷ record { file = storedFar 0xFE (0xAA ∷ 0xA9 ∷ 0xC4 ∷ 0xD3 ∷ []); offsets = 2; lengths = 2; end = 70000; outcome = refused 3 }
     -- a checksum that does not match: of a header by its last bit, of a block by its first; one that the file's end cuts
     ∷ record { file = opening ++ (0 ∷ 0xEF ∷ 0x17 ∷ 0x04 ∷ 0x2C ∷ []); offsets = 8; lengths = 8; end = 11; outcome = refused 28 }
     ∷ record { file = continued 8 (0x14 ∷ 0x9C ∷ 0x70 ∷ 0x6E ∷ []) ++ (0x9C ∷ 0xD6 ∷ 0xB8 ∷ 0x85 ∷ []); offsets = 2; lengths = 2; end = 27; outcome = refused 28 }
@@ -86,5 +100,5 @@ each f (c ∷ cs) = f c ∷ each f cs
 
 -- the definition gives each marked case its outcome
 pub marked-cases : each given marked ≡ each (λ c. c .outcome) marked
-unfolding le read bind times cond groupInfo continuation dataType typeLayer dataTypeHeader knownType knownClass properties plain dataSpace dataSpaceHeader kind dimensions dimensionsFrom dimension maximumSizes dataSpaceSizes ochk blockEnd headerEnd plus minus rotate mixLine mix finalLine finalMix addBlock blocks sumOf sumMatches hold entryBy runBy blockBy entryAt runAt walk entry prefix creationOrder closed messageHeld continuationHeld body plainBody ohdr headerFields header decode
+unfolding le read bind times cond groupInfo address definedAddress continuation rawData contiguous dataLayout dataType typeLayer dataTypeHeader knownType knownClass properties plain dataSpace dataSpaceHeader kind dimensions dimensionsFrom dimension maximumSizes dataSpaceSizes ochk blockEnd headerEnd plus minus rotate mixLine mix finalLine finalMix addBlock blocks sumOf sumMatches hold entryBy runBy blockBy entryAt runAt walk entry prefix creationOrder closed messageHeld continuationHeld body plainBody layoutBody ohdr headerFields header decode
 marked-cases = refl

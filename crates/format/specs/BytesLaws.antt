@@ -9,10 +9,10 @@ use native.Mathlib.Omega.{arith}
 use lib.ListN.{length, getD, List·getD-eq-default}
 use lib.Dec.{leb, ltb, eqb}
 use native.Mathlib.Nat.{add-zero, zero-add, mul-assoc}
-use lib.Pow.{pow-add}
+use lib.Pow.{pow-add, pow-pos, pow-mono}
 use borrow.Author.Tests.{eq-eqb, ne-eqb, eqb-true, eqb-false, lt-ltb, le-ltb, ltb-true, le-leb, lt-leb, leb-true, leb-false}
 use Rattle.format.specs.Bools.{and-left, and-right, and-none}
-use Rattle.format.specs.Bytes.{le, Named, Trimmed, nameLength, textLength, toMultipleOf8}
+use Rattle.format.specs.Bytes.{le, allOnes, Named, Trimmed, nameLength, textLength, toMultipleOf8}
 use Rattle.format.specs.Format.{nameEnds}
 
 -- by whether a byte is zero
@@ -30,6 +30,14 @@ by-le {P} a b f g = go (leb a b) refl
     go true e = f (leb-true a b e)
     go false e = g (leb-false a b e)
 
+-- one byte more
+one-more : (w : ℕ) → 2 ^ (8 * suc w) ≡ 256 * 2 ^ (8 * w)
+one-more w = let e : 8 * suc w ≡ 8 + 8 * w = omega arith in ap (λ (k : ℕ). 2 ^ k) e ∙ pow-add 2 8 (8 * w)
+
+-- all ones are not zero
+pub all-ones-positive : (w : ℕ) → 1 ≤ w → allOnes w ≡ 0 → ⊥
+all-ones-positive w h e = omega (arith, pow-mono {i = 1} {j = 8 * w} (omega arith))
+
 module _ (s : List ℕ) where
   -- a number of w bytes is below 2 ^ (8 * w)
   pub le-below : ((i : ℕ) → getD s i 0 < 256) → (p w : ℕ) → le s p w < 2 ^ (8 * w)
@@ -37,9 +45,29 @@ module _ (s : List ℕ) where
   le-below b p zero = omega arith
   le-below b p (suc w) =
       let h = le-below b (p + 1) w in
-      let e : 8 * suc w ≡ 8 + 8 * w = omega arith in
-      let d : 2 ^ (8 * suc w) ≡ 2 ^ 8 * 2 ^ (8 * w) = ap (λ (k : ℕ). 2 ^ k) e ∙ pow-add 2 8 (8 * w) in
-      omega (arith, b p)
+      omega (arith, one-more w, b p)
+
+  -- a number of w bytes is all ones where each of its bytes is 255, and nowhere else
+  pub bytes-all-ones : (p w : ℕ) → ((i : ℕ) → i < w → getD s (p + i) 0 ≡ 255) → le s p w ≡ allOnes w
+  unfolding le
+  bytes-all-ones p zero f = refl
+  bytes-all-ones p (suc w) f =
+      let next : (i : ℕ) → p + 1 + i ≡ p + suc i = λ i. omega arith in
+      let h = bytes-all-ones (p + 1) w (λ i l. ap (λ (k : ℕ). getD s k 0) (next i) ∙ f (suc i) (omega arith)) in
+      let first : p + 0 ≡ p = omega arith in
+      let b : getD s p 0 ≡ 255 = rw first at (f 0 (omega arith)) in
+      omega (arith, one-more w, pow-pos (8 * w))
+
+  pub all-ones-bytes : ((i : ℕ) → getD s i 0 < 256) → (p w : ℕ) → le s p w ≡ allOnes w → (i : ℕ) → i < w → getD s (p + i) 0 ≡ 255
+  unfolding le
+  all-ones-bytes b p zero e i l = absurd (omega arith)
+  all-ones-bytes b p (suc w) e zero l =
+      let first : p + 0 ≡ p = omega arith in
+      rw first (omega (arith, one-more w, pow-pos (8 * w), b p, le-below b (p + 1) w))
+  all-ones-bytes b p (suc w) e (suc i) l =
+      let next : p + suc i ≡ p + 1 + i = omega arith in
+      let d : le s (p + 1) w ≡ allOnes w = omega (arith, one-more w, pow-pos (8 * w), b p, le-below b (p + 1) w) in
+      rw next (all-ones-bytes b (p + 1) w d i (omega arith))
 
   -- a number of no byte, and of one
   pub le-none : (p : ℕ) → 0 ≡ le s p 0
@@ -59,9 +87,7 @@ module _ (s : List ℕ) where
       let x = le s (p + 1 + m) w in
       let a : p + suc m ≡ p + 1 + m = omega arith in
       let b : suc m + w ≡ suc (m + w) = omega arith in
-      let e : 8 * suc m ≡ 8 + 8 * m = omega arith in
-      let d : 2 ^ (8 * suc m) * x ≡ 256 * (2 ^ (8 * m) * x) =
-      ap (λ (k : ℕ). 2 ^ k * x) e ∙ ap (λ (k : ℕ). k * x) (pow-add 2 8 (8 * m)) ∙ mul-assoc (2 ^ 8) (2 ^ (8 * m)) x in
+      let d : 2 ^ (8 * suc m) * x ≡ 256 * (2 ^ (8 * m) * x) = ap (λ (k : ℕ). k * x) (one-more m) ∙ mul-assoc 256 (2 ^ (8 * m)) x in
       rw (a, b, le) (omega arith)
 
   -- by the first byte

@@ -6,6 +6,7 @@ use mathlib.Core.List.{List, [], _∷_, _++_}
 use lib.ListN.{length}
 use Rattle.format.specs.Format.{Stands}
 use Rattle.lookup3.specs.Lookup3.{Matches}
+use Rattle.standard.specs.Fields.{defined}
 use Rattle.standard.specs.Headers.{ObjectHeaderPrefix, objectHeaderPrefix, HeaderMessage, headerMessage, ContinuationMessage, continuationMessage, continuationSignature}
 
 -- Checksum, by I.A lookup3 of the bytes from a position up to where it stands, in 4 bytes of the file
@@ -21,8 +22,8 @@ module _ (file : List ℕ) (size-of-offsets size-of-lengths : ℕ) where
       gap : {p e : ℕ} → p ≤ e → e < p + 4 → Messages header-flags p e []
       next : {p m e : ℕ} {x : HeaderMessage} {xs : List HeaderMessage} → Stands file (headerMessage header-flags) p m x → (x .prefix .header-message-type ≡ 16 → ⊥) → Messages header-flags m e xs
           → Messages header-flags p e (x ∷ xs)
-      continued : {p m e : ℕ} {x : HeaderMessage} {xs ys : List HeaderMessage} (q : ℕ) (c : ContinuationMessage) → Stands file (headerMessage header-flags) p m x → x .prefix .header-message-type ≡ 16
-          → Stands file (continuationMessage size-of-offsets size-of-lengths) (x .header-message-data .position) q c → ContinuationBlock header-flags (c .offset) (c .length) ys
+      continued : {p m e : ℕ} {x : HeaderMessage} {xs ys : List HeaderMessage} (q : ℕ) (c : ContinuationMessage) (offset : ℕ) → Stands file (headerMessage header-flags) p m x → x .prefix .header-message-type ≡ 16
+          → Stands file (continuationMessage size-of-offsets size-of-lengths) (x .header-message-data .position) q c → c .offset ≡ defined offset → ContinuationBlock header-flags offset (c .length) ys
           → Messages header-flags m e xs → Messages header-flags p e (x ∷ (ys ++ xs))
 
     -- Layout: Version 2 Object Header Continuation Block, of so many bytes: signature, messages, gap, and the checksum of these

@@ -7,7 +7,7 @@ use Rattle.format.specs.Bytes.{le}
 use Rattle.format.specs.Format.{found, read, bind}
 use Rattle.format.specs.Laws.{sound}
 use Rattle.lookup3.specs.Lookup3.{plus, minus, rotate, mixLine, mix, finalLine, finalMix, addBlock, blocks, sumOf}
-use Rattle.standard.specs.Fields.{absent, present, optional, raw, many}
+use Rattle.standard.specs.Fields.{absent, present, undefined, defined, optional, address, optionalAddress, raw, many}
 use Rattle.standard.specs.Versions.{marked}
 use Rattle.standard.specs.Superblocks.{superblock23}
 use Rattle.standard.specs.Headers.{objectHeaderPrefix, messagePrefix, HeaderMessage, headerMessage, continuationMessage, continuationSignature}
@@ -25,13 +25,13 @@ pub a-superblock : read (137 ∷ 72 ∷ 68 ∷ 70 ∷ 13 ∷ 10 ∷ 26 ∷ 10 �
       size-of-offsets = 2;
       size-of-lengths = 4;
       file-consistency-flags = 5;
-      base-address = 0x0601;
-      superblock-extension-address = 0x0702;
-      end-of-file-address = 0x0803;
-      root-group-object-header-address = 0x0904;
+      base-address = defined 0x0601;
+      superblock-extension-address = defined 0x0702;
+      end-of-file-address = defined 0x0803;
+      root-group-object-header-address = defined 0x0904;
       superblock-checksum = 0x000B000A;
     }) 24
-unfolding read le superblock23
+unfolding read bind le address superblock23
 a-superblock = refl
 
 -- flags with times, numbers of attributes, and a chunk size of 4 bytes
@@ -65,8 +65,13 @@ pub another-header-message : read (3 ∷ 1 ∷ 0 ∷ 4 ∷ 7 ∷ []) (messagePre
 unfolding read bind le optional messagePrefix
 another-header-message = refl
 
-pub a-continuation : read (1 ∷ 2 ∷ 3 ∷ 0 ∷ 4 ∷ []) (continuationMessage 3 2) 0 ≡ found (record { offset = 197121; length = 1024 }) 5
-unfolding read le continuationMessage
+-- all bits set in 2 bytes, and the same number in 3
+pub an-undefined-address : (read (255 ∷ 255 ∷ []) (address 2) 0 ≡ found undefined 2) × (read (255 ∷ 255 ∷ 0 ∷ []) (address 3) 0 ≡ found (defined 65535) 3)
+unfolding read le address
+an-undefined-address = (refl, refl)
+
+pub a-continuation : read (1 ∷ 2 ∷ 3 ∷ 0 ∷ 4 ∷ []) (continuationMessage 3 2) 0 ≡ found (record { offset = defined 197121; length = 1024 }) 5
+unfolding read bind le address continuationMessage
 a-continuation = refl
 
 -- reserved bytes, two dimensions, their maximum sizes and permutation indices
@@ -94,11 +99,11 @@ pub a-link-info : read (0 ∷ 3 ∷ 1 ∷ 0 ∷ 0 ∷ 0 ∷ 0 ∷ 0 ∷ 0 ∷ 0 
       version = 0;
       flags = 3;
       maximum-creation-index = present 1;
-      fractal-heap-address = 2;
-      address-of-v2-b-tree-for-name-index = 3;
-      address-of-v2-b-tree-for-creation-order-index = present 4;
+      fractal-heap-address = defined 2;
+      address-of-v2-b-tree-for-name-index = defined 3;
+      address-of-v2-b-tree-for-creation-order-index = present (defined 4);
     }) 16
-unfolding read bind le optional linkInfoMessage
+unfolding read bind le optional address optionalAddress linkInfoMessage
 a-link-info = refl
 
 pub a-group-info : read (0 ∷ 3 ∷ 1 ∷ 0 ∷ 2 ∷ 0 ∷ 3 ∷ 0 ∷ 4 ∷ 0 ∷ []) groupInfoMessage 0
@@ -118,11 +123,11 @@ pub an-attribute-info : read (0 ∷ 3 ∷ 1 ∷ 0 ∷ 2 ∷ 0 ∷ 3 ∷ 0 ∷ 4 
       version = 0;
       flags = 3;
       maximum-creation-index = present 1;
-      fractal-heap-address = 2;
-      attribute-name-v2-b-tree-address = 3;
-      attribute-creation-order-v2-b-tree-address = present 4;
+      fractal-heap-address = defined 2;
+      attribute-name-v2-b-tree-address = defined 3;
+      attribute-creation-order-v2-b-tree-address = present (defined 4);
     }) 10
-unfolding read bind le optional attributeInfoMessage
+unfolding read bind le optional address optionalAddress attributeInfoMessage
 an-attribute-info = refl
 
 pub an-old-fill-value : read (2 ∷ 0 ∷ 0 ∷ 0 ∷ 7 ∷ 8 ∷ []) fillValueOld 0 ≡ found (record { size = 2; fill-value = record { position = 4; length = 2 } }) 6
@@ -154,8 +159,8 @@ unfolding read bind le raw marked compactStorage layoutProperties dataLayout3
 a-compact-layout = refl
 
 pub a-contiguous-layout : read (3 ∷ 1 ∷ 9 ∷ 0 ∷ 2 ∷ 0 ∷ 0 ∷ []) (dataLayout3 2 3) 0
-    ≡ found (record { version = 3; layout-class = 1; properties = contiguous (record { address = 9; size = 2 }) }) 7
-unfolding read bind le marked contiguousStorage layoutProperties dataLayout3
+    ≡ found (record { version = 3; layout-class = 1; properties = contiguous (record { address = defined 9; size = 2 }) }) 7
+unfolding read bind le marked address contiguousStorage layoutProperties dataLayout3
 a-contiguous-layout = refl
 
 -- a filter with a name, one value and its padding
@@ -212,7 +217,7 @@ plainMessage type position size =
     }
 
 pub a-whole-header : ObjectHeader continuedFile 2 2 0 (plainMessage 16 11 4 ∷ plainMessage 0 27 0 ∷ [])
-unfolding read bind le optional raw objectHeaderPrefix messagePrefix headerMessage continuationMessage continuationSignature plus minus rotate mixLine mix finalLine finalMix addBlock blocks sumOf
+unfolding read bind le optional raw objectHeaderPrefix messagePrefix headerMessage address continuationMessage continuationSignature plus minus rotate mixLine mix finalLine finalMix addBlock blocks sumOf
 a-whole-header =
     record {
       prefix = record {
@@ -230,8 +235,8 @@ a-whole-header =
       start = 7;
       prefix-stands = sound continuedFile objectHeaderPrefix 0 7 _ refl;
       chunk =
-          continued 15 (record { offset = 19; length = 12 }) (sound continuedFile (headerMessage 0) 7 15 (plainMessage 16 11 4) refl) refl
-          (sound continuedFile (continuationMessage 2 2) 11 15 _ refl)
+          continued 15 (record { offset = defined 19; length = 12 }) 19 (sound continuedFile (headerMessage 0) 7 15 (plainMessage 16 11 4) refl) refl
+          (sound continuedFile (continuationMessage 2 2) 11 15 _ refl) refl
           (block {offset = 19} {size = 12} 23 0x4B48434F (sound continuedFile continuationSignature 19 23 _ refl) (next (sound continuedFile (headerMessage 0) 23 27 (plainMessage 0 27 0) refl) (λ e. omega arith) (gap {p = 27} {e = 27} (omega arith) (omega arith))) (omega arith, refl))
           (gap {p = 15} {e = 15} (omega arith) (omega arith));
       checksum-stands = (omega arith, refl);

@@ -3,7 +3,7 @@ use Prim.Native.Nat.{ℕ, _+_, _*_, _%_}
 use lib.Dec.{eqb}
 use Rattle.format.specs.Bits.{bit}
 use Rattle.format.specs.Format.{Format, done, number, bind, pick}
-use Rattle.standard.specs.Fields.{Optional, Bytes, only, optional, raw}
+use Rattle.standard.specs.Fields.{Optional, Address, Bytes, only, optional, address, raw}
 
 -- four ASCII characters in their order, as a number whose lowest byte is the first
 abbrev pub characters : ℕ → ℕ → ℕ → ℕ → ℕ
@@ -14,12 +14,12 @@ pub record ObjectHeaderPrefix : Type 0 where
   pub signature : ℕ
   pub version : ℕ
   pub flags : ℕ
-  pub access-time : Optional
-  pub modification-time : Optional
-  pub change-time : Optional
-  pub birth-time : Optional
-  pub maximum-number-of-compact-attributes : Optional
-  pub minimum-number-of-dense-attributes : Optional
+  pub access-time : Optional ℕ
+  pub modification-time : Optional ℕ
+  pub change-time : Optional ℕ
+  pub birth-time : Optional ℕ
+  pub maximum-number-of-compact-attributes : Optional ℕ
+  pub minimum-number-of-dense-attributes : Optional ℕ
   pub size-of-chunk-0 : ℕ
 
 -- flags, bits 0-1: how many bytes the size of chunk #0 has
@@ -59,7 +59,7 @@ pub record MessagePrefix : Type 0 where
   pub header-message-type : ℕ
   pub size-of-header-message-data : ℕ
   pub header-message-flags : ℕ
-  pub header-message-creation-order : Optional
+  pub header-message-creation-order : Optional ℕ
 
 -- bit 2 of the header's flags brings the creation order
 unfoldable pub messagePrefix : ℕ → Format MessagePrefix
@@ -88,12 +88,12 @@ headerMessage header-flags =
 
 -- Layout: Object Header Continuation Message
 pub record ContinuationMessage : Type 0 where
-  pub offset : ℕ
+  pub offset : Address
   pub length : ℕ
 
 unfoldable pub continuationMessage : ℕ → ℕ → Format ContinuationMessage
 continuationMessage size-of-offsets size-of-lengths =
-    number size-of-offsets (λ offset.
+    bind (address size-of-offsets) (λ offset.
     number size-of-lengths (λ length.
     done {A = ContinuationMessage} (record { offset = offset; length = length })))
 

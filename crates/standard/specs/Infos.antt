@@ -3,16 +3,16 @@ use Prim.Native.Nat.{ℕ}
 use lib.Dec.{eqb}
 use Rattle.format.specs.Bits.{bit}
 use Rattle.format.specs.Format.{Format, done, number, bind}
-use Rattle.standard.specs.Fields.{Optional, only, optional}
+use Rattle.standard.specs.Fields.{Optional, Address, only, optional, address, optionalAddress}
 
 -- Layout: Link Info
 pub record LinkInfoMessage : Type 0 where
   pub version : ℕ
   pub flags : ℕ
-  pub maximum-creation-index : Optional
-  pub fractal-heap-address : ℕ
-  pub address-of-v2-b-tree-for-name-index : ℕ
-  pub address-of-v2-b-tree-for-creation-order-index : Optional
+  pub maximum-creation-index : Optional ℕ
+  pub fractal-heap-address : Address
+  pub address-of-v2-b-tree-for-name-index : Address
+  pub address-of-v2-b-tree-for-creation-order-index : Optional Address
 
 -- bit 0 of the flags: maximum creation index; bit 1: creation order index
 unfoldable pub linkInfoMessage : ℕ → Format LinkInfoMessage
@@ -21,9 +21,9 @@ linkInfoMessage size-of-offsets =
     only (eqb version 0) (
     number 1 (λ flags.
     bind (optional (bit flags 0) 8) (λ maximum-creation-index.
-    number size-of-offsets (λ fractal-heap-address.
-    number size-of-offsets (λ address-of-v2-b-tree-for-name-index.
-    bind (optional (bit flags 1) size-of-offsets) (λ address-of-v2-b-tree-for-creation-order-index.
+    bind (address size-of-offsets) (λ fractal-heap-address.
+    bind (address size-of-offsets) (λ address-of-v2-b-tree-for-name-index.
+    bind (optionalAddress (bit flags 1) size-of-offsets) (λ address-of-v2-b-tree-for-creation-order-index.
     done {A = LinkInfoMessage} (record {
       version = version;
       flags = flags;
@@ -37,10 +37,10 @@ linkInfoMessage size-of-offsets =
 pub record GroupInfoMessage : Type 0 where
   pub version : ℕ
   pub flags : ℕ
-  pub link-phase-change-maximum-compact-value : Optional
-  pub link-phase-change-minimum-dense-value : Optional
-  pub estimated-number-of-entries : Optional
-  pub estimated-link-name-length-of-entries : Optional
+  pub link-phase-change-maximum-compact-value : Optional ℕ
+  pub link-phase-change-minimum-dense-value : Optional ℕ
+  pub estimated-number-of-entries : Optional ℕ
+  pub estimated-link-name-length-of-entries : Optional ℕ
 
 -- bit 0 of the flags: link phase change values; bit 1: estimates
 unfoldable pub groupInfoMessage : Format GroupInfoMessage
@@ -65,10 +65,10 @@ groupInfoMessage =
 pub record AttributeInfoMessage : Type 0 where
   pub version : ℕ
   pub flags : ℕ
-  pub maximum-creation-index : Optional
-  pub fractal-heap-address : ℕ
-  pub attribute-name-v2-b-tree-address : ℕ
-  pub attribute-creation-order-v2-b-tree-address : Optional
+  pub maximum-creation-index : Optional ℕ
+  pub fractal-heap-address : Address
+  pub attribute-name-v2-b-tree-address : Address
+  pub attribute-creation-order-v2-b-tree-address : Optional Address
 
 -- bit 0 of the flags: maximum creation index; bit 1: creation order B-tree
 unfoldable pub attributeInfoMessage : ℕ → Format AttributeInfoMessage
@@ -77,9 +77,9 @@ attributeInfoMessage size-of-offsets =
     only (eqb version 0) (
     number 1 (λ flags.
     bind (optional (bit flags 0) 2) (λ maximum-creation-index.
-    number size-of-offsets (λ fractal-heap-address.
-    number size-of-offsets (λ attribute-name-v2-b-tree-address.
-    bind (optional (bit flags 1) size-of-offsets) (λ attribute-creation-order-v2-b-tree-address.
+    bind (address size-of-offsets) (λ fractal-heap-address.
+    bind (address size-of-offsets) (λ attribute-name-v2-b-tree-address.
+    bind (optionalAddress (bit flags 1) size-of-offsets) (λ attribute-creation-order-v2-b-tree-address.
     done {A = AttributeInfoMessage} (record {
       version = version;
       flags = flags;

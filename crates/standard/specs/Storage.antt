@@ -8,7 +8,7 @@ use lib.ListN.{getD}
 use lib.Dec.{eqb, leb, ltb}
 use Rattle.format.specs.Bits.{bit}
 use Rattle.format.specs.Format.{Format, done, refuse, number, bind, pick}
-use Rattle.standard.specs.Fields.{Optional, absent, present, Bytes, only, optional, raw, many}
+use Rattle.standard.specs.Fields.{Optional, absent, present, Address, Bytes, only, optional, address, raw, many}
 use Rattle.standard.specs.Versions.{byVersion, marked}
 
 -- Layout: Fill Value Message (Old)
@@ -117,12 +117,12 @@ compactStorage =
 
 -- Layout: Contiguous Storage Property Description
 pub record ContiguousStorage : Type 0 where
-  pub address : ℕ
+  pub address : Address
   pub size : ℕ
 
 unfoldable pub contiguousStorage : ℕ → ℕ → Format ContiguousStorage
 contiguousStorage size-of-offsets size-of-lengths =
-    number size-of-offsets (λ address.
+    bind (address size-of-offsets) (λ address.
     number size-of-lengths (λ size.
     done {A = ContiguousStorage} (record { address = address; size = size })))
 
@@ -176,7 +176,7 @@ pub record FilterDescription1 : Type 0 where
   pub fields : FilterFields1
   pub name : Bytes
   pub client-data : List ℕ
-  pub padding : Optional
+  pub padding : Optional ℕ
 
 -- an odd number of client data values brings a padding of four bytes
 unfoldable pub filterDescription1 : Format FilterDescription1
@@ -232,7 +232,7 @@ pub record ValidFilterPipeline1 (x : FilterPipeline1) : Type 0 where
 -- the first fields of Layout: Filter Description - Version 2; identifications below 256 have no name length and no name
 pub record FilterFields2 : Type 0 where
   pub filter-identification-value : ℕ
-  pub name-length : Optional
+  pub name-length : Optional ℕ
   pub flags : ℕ
   pub number-client-data-values : ℕ
 
@@ -250,7 +250,7 @@ filterFields2 =
     })))))
 
 -- how many bytes a field says, which may be missing
-abbrev pub orNone : Optional → ℕ
+abbrev pub orNone : Optional ℕ → ℕ
 orNone absent = 0
 orNone (present n) = n
 

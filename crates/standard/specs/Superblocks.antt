@@ -4,9 +4,9 @@ use mathlib.Core.Path.{_≡_}
 use mathlib.Core.Bool.{_||_}
 use mathlib.Core.List.{List}
 use lib.Dec.{eqb}
-use Rattle.format.specs.Format.{Format, done, number}
+use Rattle.format.specs.Format.{Format, done, number, bind}
 use Rattle.lookup3.specs.Lookup3.{checksum}
-use Rattle.standard.specs.Fields.{only}
+use Rattle.standard.specs.Fields.{Address, only, address}
 use Rattle.standard.specs.Headers.{characters}
 
 -- Layout: Superblock (Versions 2 and 3)
@@ -16,17 +16,16 @@ pub record Superblock : Type 0 where
   pub size-of-offsets : ℕ
   pub size-of-lengths : ℕ
   pub file-consistency-flags : ℕ
-  pub base-address : ℕ
-  pub superblock-extension-address : ℕ
-  pub end-of-file-address : ℕ
-  pub root-group-object-header-address : ℕ
+  pub base-address : Address
+  pub superblock-extension-address : Address
+  pub end-of-file-address : Address
+  pub root-group-object-header-address : Address
   pub superblock-checksum : ℕ
 
 -- the eight values of the signature in their order, the first in the lowest byte
 abbrev pub signature : ℕ
 signature = characters 137 72 68 70 + 4294967296 * characters 13 10 26 10
 
--- addresses have the size of offsets
 unfoldable pub superblock23 : Format Superblock
 superblock23 =
     number 8 (λ format-signature.
@@ -36,10 +35,10 @@ superblock23 =
     number 1 (λ size-of-offsets.
     number 1 (λ size-of-lengths.
     number 1 (λ file-consistency-flags.
-    number size-of-offsets (λ base-address.
-    number size-of-offsets (λ superblock-extension-address.
-    number size-of-offsets (λ end-of-file-address.
-    number size-of-offsets (λ root-group-object-header-address.
+    bind (address size-of-offsets) (λ base-address.
+    bind (address size-of-offsets) (λ superblock-extension-address.
+    bind (address size-of-offsets) (λ end-of-file-address.
+    bind (address size-of-offsets) (λ root-group-object-header-address.
     number 4 (λ superblock-checksum.
     done {A = Superblock} (record {
       format-signature = format-signature;

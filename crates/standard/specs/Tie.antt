@@ -147,11 +147,11 @@ module _ {A B : Type 0} {R : A → B → Type 0} where
   tied-raw {n = n} t = record { ties = λ s p q a h. onward (t (record { position = p; length = n }) refl .ties s (p + n) q a (h .1)) (λ b i. (h .0, i)) }
 
   -- bytes that ours passes over where a field is present, and where it is not
-  pub tied-optional : (test : Bool) (w : ℕ) {F : Format A} {g : Optional → Format B} → test ≡ true → ((o : Optional) → Tied R F (g o)) → Tied R (skip w F) (bind (optional test w) g)
+  pub tied-optional : (test : Bool) (w : ℕ) {F : Format A} {g : Optional ℕ → Format B} → test ≡ true → ((o : Optional ℕ) → Tied R F (g o)) → Tied R (skip w F) (bind (optional test w) g)
   unfolding optional bind
   tied-optional test w e t = rw e (tied-skip-number (λ n. t (present n)))
 
-  pub tied-optional-none : (test : Bool) (w : ℕ) {F : Format A} {g : Optional → Format B} → test ≡ false → ((o : Optional) → Tied R F (g o)) → Tied R F (bind (optional test w) g)
+  pub tied-optional-none : (test : Bool) (w : ℕ) {F : Format A} {g : Optional ℕ → Format B} → test ≡ false → ((o : Optional ℕ) → Tied R F (g o)) → Tied R F (bind (optional test w) g)
   unfolding optional bind
   tied-optional-none test w e t = rw e (t absent)
 

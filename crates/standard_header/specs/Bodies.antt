@@ -13,6 +13,7 @@ use Rattle.format.specs.Standing.{stands-bind}
 use Rattle.records.specs.declared.OptionPart.{OptionPart}
 use Rattle.records.specs.declared.OptionPart.the-variants as parts
 use Rattle.records.specs.declared.Part.{Part}
+use Rattle.records.specs.declared.DataLayout.{DataLayout}
 use Rattle.records.specs.declared.DataSpace.{DataSpace}
 use Rattle.records.specs.declared.LinkInfo.{LinkInfo}
 use Rattle.records.specs.declared.GroupInfo.{GroupInfo}
@@ -67,11 +68,11 @@ module _ (file : List ℕ) (s : State) where
   pub link-info-at : (b q : ℕ) (l : LinkInfo) → Stands file (linkInfo s) b q l → LinkInfoAt b q l
   link-info-at b q l h = link-info-tied s .ties file b q l h
 
-  abbrev pub LayoutAt : ℕ → ℕ → Part → Type 0
-  LayoutAt b q p = Stood (SameLayout s) (dataLayout3 (s .«size_of_offsets») (s .«size_of_lengths»)) file b q p
+  abbrev pub LayoutAt : ℕ → ℕ → DataLayout → Type 0
+  LayoutAt b q l = Stood (SameLayout s) (dataLayout3 (s .«size_of_offsets») (s .«size_of_lengths»)) file b q l
 
-  pub layout-at : (b q : ℕ) (p : Part) → Stands file (dataLayout s) b q p → LayoutAt b q p
-  layout-at b q p h = data-layout-tied s .ties file b q p h
+  pub layout-at : (b q : ℕ) (l : DataLayout) → Stands file (dataLayout s) b q l → LayoutAt b q l
+  layout-at b q l h = data-layout-tied s .ties file b q l h
 
   abbrev pub AttributeInfoAt : ℕ → ℕ → AttributeInfo → Type 0
   AttributeInfoAt b q a = Stood SameAttributeInfo (attributeInfoMessage (s .«size_of_offsets»)) file b q a
@@ -126,7 +127,7 @@ module _ (file : List ℕ) (s : State) (longest : ℕ) where
     datatype : {q : ℕ} (t : DataType) → TypeAt file longest b q t → BodyIs b q 3 (messages.dataType t)
     fill-value-old : {q : ℕ} → FillValueOldAt file b q → BodyIs b q 4 messages.nothing
     fill-value : {q : ℕ} → FillValueAt file b q → BodyIs b q 5 messages.nothing
-    data-layout : {q : ℕ} (p : Part) → LayoutAt file s b q p → BodyIs b q 8 (messages.dataLayout p)
+    data-layout : {q : ℕ} (l : DataLayout) → LayoutAt file s b q l → BodyIs b q 8 (messages.dataLayout l)
     group-info : {q : ℕ} (g : GroupInfo) → GroupInfoAt file b q g → BodyIs b q 10 (messages.groupInfo g)
     filter-pipeline : {q : ℕ} → FilterPipelineAt file b q → BodyIs b q 11 messages.nothing
     attribute-message : {q : ℕ} (a : Attribute) → AttributeAt b q a → BodyIs b q 12 (messages.attribute a)

@@ -32,7 +32,7 @@ width-same (suc (suc (suc zero))) h = refl
 width-same (suc (suc (suc (suc n)))) h = absurd (omega arith)
 
 -- the four times: 16 bytes, where they are present
-times-tied : {A B : Type 0} {R : A → B → Type 0} (test : Bool) {F : Format A} {g : Optional → Optional → Optional → Optional → Format B} → ((a m c b : Optional) → Tied R F (g a m c b))
+times-tied : {A B : Type 0} {R : A → B → Type 0} (test : Bool) {F : Format A} {g : Optional ℕ → Optional ℕ → Optional ℕ → Optional ℕ → Format B} → ((a m c b : Optional ℕ) → Tied R F (g a m c b))
     → Tied R (skip (pick test 16 0) F) (bind (optional test 4) (λ a. bind (optional test 4) (λ m. bind (optional test 4) (λ c. bind (optional test 4) (λ b. g a m c b)))))
 times-tied true t =
     tied-split 4 12 (tied-optional true 4 refl (λ a.

@@ -78,10 +78,10 @@ module _ (file : List ℕ) (s : State) (header-flags : ℕ) where
       go (inr y) (inl d) = inl (inr (in-second block-all all d))
       go (inr y) (inr w) =
           let c = k .0 .header-message-data in
-          let z = rw (c .related .offset, c .related .length) at (y .stands) in
+          let z = rw (c .related .length) at (y .stands) in
           inr (record {
             messages = x ∷ (y .messages ++ w .messages);
-            chunk = continued (k .0 .upto) (c .value) (h .1) (k .0 .header-message-type) (c .stands) z (w .chunk);
+            chunk = continued (k .0 .upto) (c .value) o (h .1) (k .0 .header-message-type) (c .stands) (c .related .offset) z (w .chunk);
             same = (k .0, same-append file s block-all all (y .messages) (w .messages) (y .same) (w .same));
           })
 

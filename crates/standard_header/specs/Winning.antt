@@ -10,7 +10,7 @@ use borrow.Author.Tests.{eqb-true, eqb-false}
 use Rattle.format.specs.Format.{Format, done, bind, Stands, read}
 use Rattle.format.specs.Laws.{complete}
 use Rattle.format.specs.Standing.{stands-bind}
-use Rattle.records.specs.Defaults.{defaultDataSpace, defaultLinkInfo, defaultGroupInfo, defaultAttributeInfo, defaultDataType}
+use Rattle.records.specs.Defaults.{defaultDataSpace, defaultLinkInfo, defaultGroupInfo, defaultAttributeInfo, defaultDataType, defaultDataLayout}
 use Rattle.parser.specs.declared.State.{State}
 use Rattle.grammar.specs.Message.{Kept, Message}
 use Rattle.grammar.specs.Message as messages
@@ -18,7 +18,7 @@ use Rattle.grammar.specs.Grammar.{Item}
 use Rattle.grammar.specs.Table.{messagesOf}
 use Rattle.grammar.specs.Each.{All}
 use Rattle.ohdr_info.specs.Info.{linkInfo, groupInfo, attributeInfo}
-use Rattle.ohdr_storage.specs.Storage.{dataLayout, emptyPart}
+use Rattle.ohdr_storage.specs.Storage.{dataLayout}
 use Rattle.ohdr_datatype.specs.DataTypes.{dataType, typeLevels}
 use Rattle.ohdr_dataspace.specs.DataSpaces.{dataSpace}
 use Rattle.ohdr_entry.specs.Entries.{body, plainBody, layoutBody}
@@ -26,7 +26,7 @@ use Rattle.ohdr_entry.specs.Entered.{Bodied}
 use Rattle.data_object_header.specs.Headers.{HeaderReading}
 use Rattle.data_object_winners.specs.Wins.{Wins, win, winsAfter, winsOf, defaults}
 use Rattle.data_object_winners.specs.Winners.{valueOr}
-use Rattle.data_object_winners.specs.WinnerLaws.{typeOf, typed, Won, all-bodied, space-won, type-won, link-won, group-won, info-won, data-won}
+use Rattle.data_object_winners.specs.WinnerLaws.{typeOf, typed, Won, all-bodied, space-won, type-won, link-won, group-won, info-won, layout-won}
 use Rattle.standard_header.specs.Bodies.{SpaceAt, space-at, LinkInfoAt, link-info-at, TypeAt, type-at, LayoutAt, layout-at, GroupInfoAt, group-info-at, AttributeInfoAt, attribute-info-at}
 
 -- no message of a type
@@ -83,7 +83,7 @@ module _ (file : List ℕ) (s : State) where
     pub dataspace : Given 1 (SpaceAt file s) defaultDataSpace (w .ds) ms
     pub link-info : Given 2 (LinkInfoAt file s) defaultLinkInfo (w .li) ms
     pub datatype : Given 3 (TypeAt file longest) defaultDataType (w .dt) ms
-    pub data-layout : Given 8 (LayoutAt file s) emptyPart (w .«data») ms
+    pub data-layout : Given 8 (LayoutAt file s) defaultDataLayout (w .layout) ms
     pub group-info : Given 10 (GroupInfoAt file) defaultGroupInfo (w .gi) ms
     pub attribute-info : Given 21 (AttributeInfoAt file s) defaultAttributeInfo (w .ai) ms
 
@@ -94,7 +94,7 @@ module _ (file : List ℕ) (s : State) where
         dataspace = given-after 1 (dataSpace s) messages.dataSpace (SpaceAt file s) defaultDataSpace (λ w. w .ds) (space-won file s) refl (space-at file s) ms b defaults;
         link-info = given-after 2 (linkInfo s) messages.linkInfo (LinkInfoAt file s) defaultLinkInfo (λ w. w .li) (link-won file s) refl (link-info-at file s) ms b defaults;
         datatype = given-after 3 (dataType typeLevels) messages.dataType (TypeAt file longest) defaultDataType (λ w. w .dt) (type-won file s) refl (type-at file longest enough) ms b defaults;
-        data-layout = given-after 8 (dataLayout s) messages.dataLayout (LayoutAt file s) emptyPart (λ w. w .«data») (data-won file s) refl (layout-at file s) ms b defaults;
+        data-layout = given-after 8 (dataLayout s) messages.dataLayout (LayoutAt file s) defaultDataLayout (λ w. w .layout) (layout-won file s) refl (layout-at file s) ms b defaults;
         group-info = given-after 10 groupInfo messages.groupInfo (GroupInfoAt file) defaultGroupInfo (λ w. w .gi) (group-won file s) refl (group-info-at file) ms b defaults;
         attribute-info = given-after 21 (attributeInfo s) messages.attributeInfo (AttributeInfoAt file s) defaultAttributeInfo (λ w. w .ai) (info-won file s) refl (attribute-info-at file s) ms b defaults;
       }

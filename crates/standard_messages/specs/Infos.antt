@@ -6,54 +6,59 @@ use mathlib.Core.Bool.{_&&_}
 use lib.Dec.{eqb, leb}
 use Rattle.format.specs.Bits.{bit}
 use Rattle.format.specs.Format.{done, number, bind, check}
+use Rattle.records.specs.declared.Address.{Address}
 use Rattle.records.specs.declared.LinkInfo.{LinkInfo}
 use Rattle.records.specs.declared.GroupInfo.{GroupInfo}
 use Rattle.records.specs.declared.AttributeInfo.{AttributeInfo}
+use Rattle.helpers.specs.Addresses.{address}
 use Rattle.parser.specs.declared.State.{State}
 use Rattle.parser.specs.States.{addressValid}
 use Rattle.ohdr_entry.specs.declared.Continuation.{Continuation}
-use Rattle.ohdr_info.specs.Info.{cond, linkInfo, groupInfo, attributeInfo}
+use Rattle.ohdr_info.specs.Info.{cond, condAddress, linkInfo, groupInfo, attributeInfo}
 use Rattle.ohdr_entry.specs.Continuations.{continuation}
+use Rattle.standard.specs.Fields as standard
 use Rattle.standard.specs.Fields.{Optional, only, optional}
 use Rattle.standard.specs.Tie.{Tied, tied-done, tied-number, tied-check, tied-only, tied-bind}
 use Rattle.standard.specs.Headers.{ContinuationMessage, continuationMessage}
 use Rattle.standard.specs.Infos.{LinkInfoMessage, linkInfoMessage, GroupInfoMessage, groupInfoMessage, AttributeInfoMessage, attributeInfoMessage}
+use Rattle.standard_messages.specs.Addresses.{addressIn, address-tied, defined-address-tied, optionAddress, orZeroAddress, SameAddress, tied-cond-address}
 use Rattle.standard_messages.specs.Options.{option16, option64, orZero, Same, tied-cond}
 
 -- flags, a maximum creation index of w bytes where bit 0 brings it, two addresses, and a third where bit 1 does
-indexed-tied : {A B : Type 0} {R : A → B → Type 0} (refusal w offsets : ℕ) (f : ℕ → ℕ → ℕ → ℕ → ℕ → A) (g : ℕ → ℕ → Optional → ℕ → ℕ → Optional → B)
-    → ((version flags n : ℕ) (index : Optional) (heap names m : ℕ) (order : Optional) → Same (bit flags 0) n index → Same (bit flags 1) m order → R (f flags n heap names m) (g version flags index heap names order))
+indexed-tied : {A B : Type 0} {R : A → B → Type 0} (refusal w offsets : ℕ) (f : ℕ → ℕ → Address → Address → Address → A) (g : ℕ → ℕ → Optional ℕ → standard.Address → standard.Address → Optional standard.Address → B)
+    → ((version flags n : ℕ) (index : Optional ℕ) (a : Address) (heap : standard.Address) (b : Address) (names : standard.Address) (c : Address) (order : Optional standard.Address)
+    → Same (bit flags 0) n index → a ≡ addressIn heap → b ≡ addressIn names → SameAddress (bit flags 1) c order → R (f flags n a b c) (g version flags index heap names order))
     → Tied R
-    (number 1 (λ version. check (eqb version 0) refusal (number 1 (λ flags. bind (cond (bit flags 0) w) (λ n. number offsets (λ heap. number offsets (λ names. bind (cond (bit flags 1) offsets) (λ m. done (f flags n heap names m)))))))))
-    (number 1 (λ version. only (eqb version 0) (number 1 (λ flags. bind (optional (bit flags 0) w) (λ index. number offsets (λ heap. number offsets (λ names. bind (optional (bit flags 1) offsets) (λ order. done (g version flags index heap names order)))))))))
+    (number 1 (λ version. check (eqb version 0) refusal (number 1 (λ flags. bind (cond (bit flags 0) w) (λ n. bind (address offsets) (λ a. bind (address offsets) (λ b. bind (condAddress (bit flags 1) offsets) (λ c. done (f flags n a b c)))))))))
+    (number 1 (λ version. only (eqb version 0) (number 1 (λ flags. bind (optional (bit flags 0) w) (λ index. bind (standard.address offsets) (λ heap. bind (standard.address offsets) (λ names. bind (standard.optionalAddress (bit flags 1) offsets) (λ order. done (g version flags index heap names order)))))))))
 indexed-tied refusal w offsets f g same =
     tied-number (λ version.
     tied-check (eqb version 0) refusal (λ e.
     tied-only (eqb version 0) e (
     tied-number (λ flags.
     tied-bind (tied-cond (bit flags 0) w) (λ n index i.
-    tied-number (λ heap.
-    tied-number (λ names.
-    tied-bind (tied-cond (bit flags 1) offsets) (λ m order o.
-    tied-done (same version flags n index heap names m order i o)))))))))
+    tied-bind (address-tied offsets) (λ a heap h.
+    tied-bind (address-tied offsets) (λ b names k.
+    tied-bind (tied-cond-address (bit flags 1) offsets) (λ c order o.
+    tied-done (same version flags n index a heap b names c order i h k o)))))))))
 
--- IV.A.2.c; an undefined address is the number that all ones are (entry 67), reserved bits of the flags are kept (68)
+-- IV.A.2.c; reserved bits of the flags are kept (entry 68)
 pub record SameLinkInfo (ours : LinkInfo) (theirs : LinkInfoMessage) : Type 0 where
   pub flags : ours .flags ≡ theirs .flags
   pub maximum-creation-index : ours .«maximum_creation_index» ≡ option64 (theirs .maximum-creation-index)
-  pub fractal-heap-address : ours .«fractal_heap_address» ≡ theirs .fractal-heap-address
-  pub address-of-v2-b-tree-for-name-index : ours .«address_btree_index» ≡ theirs .address-of-v2-b-tree-for-name-index
-  pub address-of-v2-b-tree-for-creation-order-index : ours .«address_btree_order» ≡ option64 (theirs .address-of-v2-b-tree-for-creation-order-index)
+  pub fractal-heap-address : ours .«fractal_heap_address» ≡ addressIn (theirs .fractal-heap-address)
+  pub address-of-v2-b-tree-for-name-index : ours .«address_btree_index» ≡ addressIn (theirs .address-of-v2-b-tree-for-name-index)
+  pub address-of-v2-b-tree-for-creation-order-index : ours .«address_btree_order» ≡ optionAddress (theirs .address-of-v2-b-tree-for-creation-order-index)
 
 pub link-info-tied : (s : State) → Tied SameLinkInfo (linkInfo s) (linkInfoMessage (s .«size_of_offsets»))
 unfolding linkInfo linkInfoMessage
 link-info-tied s =
-    indexed-tied 10 8 (s .«size_of_offsets») _ _ (λ version flags n index heap names m order i o. record {
+    indexed-tied 10 8 (s .«size_of_offsets») _ _ (λ version flags n index a heap b names c order i h k o. record {
       flags = refl;
       maximum-creation-index = i .eight;
-      fractal-heap-address = refl;
-      address-of-v2-b-tree-for-name-index = refl;
-      address-of-v2-b-tree-for-creation-order-index = o .eight;
+      fractal-heap-address = h;
+      address-of-v2-b-tree-for-name-index = k;
+      address-of-v2-b-tree-for-creation-order-index = o .some;
     })
 
 -- IV.A.2.k; estimates that are not stored are missing (entry 69), reserved bits of the flags are kept (70)
@@ -83,35 +88,35 @@ group-info-tied =
       estimated-link-name-length-of-entries = l .two;
     })))))))))
 
--- IV.A.2.v; what is not stored is zero (entry 78), an undefined address is the number that all ones are (77), reserved bits of the flags are kept (79)
+-- IV.A.2.v; what is not stored is zero (entry 78), reserved bits of the flags are kept (79)
 pub record SameAttributeInfo (ours : AttributeInfo) (theirs : AttributeInfoMessage) : Type 0 where
   pub flags : ours .flags ≡ theirs .flags
   pub maximum-creation-index : ours .«maximum_creation_index» ≡ orZero (theirs .maximum-creation-index)
-  pub fractal-heap-address : ours .«fractal_heap_address» ≡ theirs .fractal-heap-address
-  pub attribute-name-v2-b-tree-address : ours .«attribute_name_btree» ≡ theirs .attribute-name-v2-b-tree-address
-  pub attribute-creation-order-v2-b-tree-address : ours .«attribute_creation_order_btree» ≡ orZero (theirs .attribute-creation-order-v2-b-tree-address)
+  pub fractal-heap-address : ours .«fractal_heap_address» ≡ addressIn (theirs .fractal-heap-address)
+  pub attribute-name-v2-b-tree-address : ours .«attribute_name_btree» ≡ addressIn (theirs .attribute-name-v2-b-tree-address)
+  pub attribute-creation-order-v2-b-tree-address : ours .«attribute_creation_order_btree» ≡ orZeroAddress (theirs .attribute-creation-order-v2-b-tree-address)
 
 pub attribute-info-tied : (s : State) → Tied SameAttributeInfo (attributeInfo s) (attributeInfoMessage (s .«size_of_offsets»))
 unfolding attributeInfo attributeInfoMessage
 attribute-info-tied s =
-    indexed-tied 18 2 (s .«size_of_offsets») _ _ (λ version flags n index heap names m order i o. record {
+    indexed-tied 18 2 (s .«size_of_offsets») _ _ (λ version flags n index a heap b names c order i h k o. record {
       flags = refl;
       maximum-creation-index = i .zero;
-      fractal-heap-address = refl;
-      attribute-name-v2-b-tree-address = refl;
+      fractal-heap-address = h;
+      attribute-name-v2-b-tree-address = k;
       attribute-creation-order-v2-b-tree-address = o .zero;
     })
 
 -- IV.A.2.q
 pub record SameContinuation (ours : Continuation) (theirs : ContinuationMessage) : Type 0 where
-  pub offset : ours .offset ≡ theirs .offset
+  pub offset : theirs .offset ≡ standard.defined (ours .offset)
   pub length : ours .length ≡ theirs .length
 
 pub continuation-tied : (s : State) → Tied SameContinuation (continuation s) (continuationMessage (s .«size_of_offsets») (s .«size_of_lengths»))
 unfolding continuation continuationMessage
 continuation-tied s =
-    tied-number (λ offset.
+    tied-bind (defined-address-tied (s .«size_of_offsets») 19) (λ offset theirs o.
     tied-check (addressValid s offset) 19 (λ e.
     tied-number (λ length.
     tied-check (leb 8 length && leb (offset + length) (s .«end_of_file_address»)) 19 (λ d.
-    tied-done (record { offset = refl; length = refl })))))
+    tied-done (record { offset = o; length = refl })))))

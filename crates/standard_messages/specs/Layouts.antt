@@ -2,18 +2,25 @@
 -- Entries are those of docs/DIFFERENCES.md, part one. Assumes nothing.
 use Prim.Native.Nat.{ℕ, _<_}
 use mathlib.Core.Path.{_≡_, refl, sym, _∙_}
-use mathlib.Core.Bool.{true, false}
+use mathlib.Core.Bool.{Bool, true, false}
 use native.Mathlib.Omega.{arith}
 use lib.Dec.{eqb, ltb}
 use borrow.Author.Tests.{eq-eqb, ne-eqb}
-use Rattle.format.specs.Format.{refuse, pick}
+use Rattle.format.specs.Format.{done, refuse, bytes, there, bind, pick, nothing}
+use Rattle.records.specs.declared.Address.{Address}
+use Rattle.records.specs.declared.Address.the-variants as addresses
+use Rattle.records.specs.declared.OptionAddress.the-variants as optionAddresses
 use Rattle.records.specs.declared.Part.{Part}
+use Rattle.records.specs.declared.DataLayout.{DataLayout}
+use Rattle.records.specs.Defaults.{emptyPart}
 use Rattle.parser.specs.declared.State.{State}
 use Rattle.parser.specs.States.{addressValid}
-use Rattle.ohdr_storage.specs.Storage.{fillOld, fillValue, emptyPart, contiguousPart, compact, contiguous, dataLayout}
-use Rattle.standard.specs.Tie.{Tied, tied-done, tied-number, tied-check, tied-only, tied-pick, tied-pick-left, tied-there-left, tied-refuse, tied-raw}
+use Rattle.ohdr_storage.specs.Storage.{fillOld, fillValue, contiguousPart, compact, rawData, contiguous, dataLayout}
+use Rattle.standard.specs.Tie.{Tied, tied-done, tied-number, tied-check, tied-only, tied-pick, tied-pick-left, tied-bind, tied-there-left, tied-refuse, tied-raw}
 use Rattle.standard.specs.Versions.{marked, tied-marked}
-use Rattle.standard.specs.Storage as standard
+use Rattle.standard_messages.specs.Addresses.{addressIn, address-tied}
+use Rattle.standard.specs.Fields as standard
+use Rattle.standard.specs.Storage as storages
 use Rattle.standard.specs.Storage.{fillValueOld, compactStorage, ContiguousStorage, contiguousStorage, LayoutProperties, layoutProperties, DataLayout3, dataLayout3}
 
 -- IV.A.2.e: nothing of it is handed out
@@ -21,53 +28,95 @@ pub fill-value-old-tied : Tied (λ _ _. Unit {0}) fillOld fillValueOld
 unfolding fillValue fillValueOld
 fill-value-old-tied = tied-number (λ size. tied-raw (λ x e. tied-done tt))
 
--- IV.A.2.i, contiguous storage: the raw data. Where the address is 0 (entry 43), or at or past the end-of-file address (44), none are handed out;
--- the undefined address is a number like any other (45)
-pub record SameContiguous (s : State) (ours : Part) (theirs : ContiguousStorage) : Type 0 where
-  pub raw-data : addressValid s (theirs .address) ≡ true → 0 < theirs .size → ours ≡ record { position = theirs .address; length = theirs .size }
-  pub no-size : theirs .size ≡ 0 → ours ≡ emptyPart
-  pub no-data : addressValid s (theirs .address) ≡ false → ours ≡ emptyPart
+-- IV.A.2.i, contiguous storage: the address, and the raw data. Where the address is undefined there are none; where it is 0 (entry 43), or at or
+-- past the end-of-file address (44), none are handed out.
+pub record SameContiguous (s : State) (ours : DataLayout) (theirs : ContiguousStorage) : Type 0 where
+  pub address : ours .address ≡ optionAddresses.Some (addressIn (theirs .address))
+  pub raw-data : (a : ℕ) → theirs .address ≡ standard.defined a → addressValid s a ≡ true → 0 < theirs .size → ours .«data» ≡ record { position = a; length = theirs .size }
+  pub no-size : theirs .size ≡ 0 → ours .«data» ≡ emptyPart
+  pub undefined : theirs .address ≡ standard.undefined → ours .«data» ≡ emptyPart
+  pub no-data : (a : ℕ) → theirs .address ≡ standard.defined a → addressValid s a ≡ false → ours .«data» ≡ emptyPart
 
--- compact storage: its raw data are not handed out (entry 41)
-abbrev pub SameProperties : State → Part → LayoutProperties → Type 0
-SameProperties s ours (standard.compact c) = ours ≡ emptyPart
-SameProperties s ours (standard.contiguous c) = SameContiguous s ours c
+-- compact storage: its raw data are not handed out (entry 41), and have no address
+abbrev pub SameProperties : State → DataLayout → LayoutProperties → Type 0
+SameProperties s ours (storages.compact c) = ours ≡ record { address = optionAddresses.None; «data» = emptyPart }
+SameProperties s ours (storages.contiguous c) = SameContiguous s ours c
 
-abbrev pub SameLayout : State → Part → DataLayout3 → Type 0
+abbrev pub SameLayout : State → DataLayout → DataLayout3 → Type 0
 SameLayout s ours theirs = SameProperties s ours (theirs .properties)
 
-compact-tied : Tied (λ ours c. ours ≡ emptyPart) compact compactStorage
+compact-tied : Tied (λ ours c. ours ≡ record { address = optionAddresses.None; «data» = emptyPart }) compact compactStorage
 unfolding compact compactStorage
 compact-tied = tied-number (λ size. tied-raw (λ x e. tied-done refl))
+
+never : {P : Type 0} → true ≡ false → P
+never e = let z : _≡_ {A = ℕ} 0 1 = cc in absurd (omega arith)
+
+part-some : (address size : ℕ) → 0 < size → contiguousPart address size ≡ record { position = address; length = size }
+part-some address size z = rw (ne-eqb size 0 (λ e. omega arith))
+
+part-none : (address size : ℕ) → size ≡ 0 → contiguousPart address size ≡ emptyPart
+part-none address size e = rw (eq-eqb size 0 e)
+
+-- what is read of a size and an address beside these
+module _ (s : State) (size : ℕ) where
+  abbrev layoutOf : Address → Part → DataLayout
+  layoutOf a part = record { address = optionAddresses.Some a; «data» = part }
+
+  abbrev storage : standard.Address → ContiguousStorage
+  storage a = record { address = a; size = size }
+
+  -- one address is another
+  same : {n a : ℕ} → standard.defined n ≡ standard.defined a → n ≡ a
+  same e = cc
+
+  no-undefined : {n : ℕ} {P : Type 0} → standard.defined n ≡ standard.undefined → P
+  no-undefined e = let z : _≡_ {A = ℕ} 0 1 = cc in absurd (omega arith)
+
+  there-tied : (n : ℕ) (t : Bool) → addressValid s n ≡ t → Tied (SameContiguous s) (bind (pick t (there n (bytes size nothing) (λ _. done (contiguousPart n size))) (done emptyPart)) (λ part. done (layoutOf (addresses.Number n) part))) (done (storage (standard.defined n)))
+  unfolding bind
+  there-tied n true v =
+      tied-there-left (λ _. tied-done (record {
+        address = refl;
+        raw-data = λ a e _ z. rw (← same e) (part-some n size z);
+        no-size = part-none n size;
+        undefined = λ e. no-undefined e;
+        no-data = λ a e f. never (sym v ∙ (rw (← same e) at f));
+      }))
+  there-tied n false v =
+      tied-done (record {
+        address = refl;
+        raw-data = λ a e f _. never (sym (rw (← same e) at f) ∙ v);
+        no-size = λ _. refl;
+        undefined = λ _. refl;
+        no-data = λ _ _ _. refl;
+      })
+
+  raw-tied : (theirs : standard.Address) → Tied (SameContiguous s) (bind (rawData s size (addressIn theirs)) (λ part. done (layoutOf (addressIn theirs) part))) (done (storage theirs))
+  unfolding bind rawData
+  raw-tied standard.undefined =
+      tied-done (record {
+        address = refl;
+        raw-data = λ a e _ _. no-undefined (sym e);
+        no-size = λ _. refl;
+        undefined = λ _. refl;
+        no-data = λ _ _ _. refl;
+      })
+  raw-tied (standard.defined n) = there-tied n (addressValid s n) refl
 
 contiguous-tied : (s : State) → Tied (SameContiguous s) (contiguous s) (contiguousStorage (s .«size_of_offsets») (s .«size_of_lengths»))
 unfolding contiguous contiguousStorage
 contiguous-tied s =
-    tied-number (λ address.
+    tied-bind (address-tied (s .«size_of_offsets»)) (λ a theirs e.
     tied-number (λ size.
-    tied-check (ltb size 268435456) 13 (λ e.
-    tied-pick-left (addressValid s address)
-    (λ v. tied-there-left (λ _. tied-done (record {
-      raw-data = λ _ z. part-some address size z;
-      no-size = part-none address size;
-      no-data = λ f. never (sym v ∙ f);
-    })))
-    (λ f. tied-done (record { raw-data = λ v _. never (sym v ∙ f); no-size = λ _. refl; no-data = λ _. refl })))))
-  where
-    never : {P : Type 0} → true ≡ false → P
-    never e = let z : _≡_ {A = ℕ} 0 1 = cc in absurd (omega arith)
-
-    part-some : (address size : ℕ) → 0 < size → contiguousPart address size ≡ record { position = address; length = size }
-    part-some address size z = rw (ne-eqb size 0 (λ e. omega arith))
-
-    part-none : (address size : ℕ) → size ≡ 0 → contiguousPart address size ≡ emptyPart
-    part-none address size e = rw (eq-eqb size 0 e)
+    tied-check (ltb size 268435456) 13 (λ _.
+    rw e (raw-tied s size theirs))))
 
 properties-tied : (s : State) (layout-class : ℕ) → Tied (SameProperties s) (pick (eqb layout-class 0) compact (pick (eqb layout-class 1) (contiguous s) (pick (eqb layout-class 2) (refuse 14) (refuse 13)))) (layoutProperties (s .«size_of_offsets») (s .«size_of_lengths») layout-class)
 unfolding layoutProperties
 properties-tied s layout-class =
-    tied-pick (eqb layout-class 0) (λ _. tied-marked standard.compact compact-tied) (λ _.
-    tied-pick (eqb layout-class 1) (λ _. tied-marked standard.contiguous (contiguous-tied s)) (λ _.
+    tied-pick (eqb layout-class 0) (λ _. tied-marked storages.compact compact-tied) (λ _.
+    tied-pick (eqb layout-class 1) (λ _. tied-marked storages.contiguous (contiguous-tied s)) (λ _.
     tied-pick-left (eqb layout-class 2) (λ _. tied-refuse) (λ _. tied-refuse)))
 
 pub data-layout-tied : (s : State) → Tied (SameLayout s) (dataLayout s) (dataLayout3 (s .«size_of_offsets») (s .«size_of_lengths»))

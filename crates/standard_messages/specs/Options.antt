@@ -11,21 +11,21 @@ use Rattle.standard.specs.Fields.{Optional, absent, present, optional}
 use Rattle.standard.specs.Tie.{Tied, tied-done, tied-number}
 
 -- the same field, missing or there
-abbrev pub option16 : Optional → OptionU16
+abbrev pub option16 : Optional ℕ → OptionU16
 option16 absent = options16.None
 option16 (present n) = options16.Some n
 
-abbrev pub option64 : Optional → OptionU64
+abbrev pub option64 : Optional ℕ → OptionU64
 option64 absent = options64.None
 option64 (present n) = options64.Some n
 
 -- a field that is zero where it is missing
-abbrev pub orZero : Optional → ℕ
+abbrev pub orZero : Optional ℕ → ℕ
 orZero absent = 0
 orZero (present n) = n
 
 -- what is read of a field by a flag, and the specification's field
-pub record Same (test : Bool) (n : ℕ) (o : Optional) : Type 0 where
+pub record Same (test : Bool) (n : ℕ) (o : Optional ℕ) : Type 0 where
   pub zero : n ≡ orZero o
   pub two : some16 test n ≡ option16 o
   pub eight : some64 test n ≡ option64 o

@@ -17,6 +17,7 @@ use Rattle.data_object.specs.declared.DataObject.{DataObject}
 use Rattle.data_object_words.specs.Words.{wordsOf}
 use Rattle.data_object_words.specs.Handed.{Handed}
 use Rattle.data_object_root.specs.Root.{HandedBy, HandedRoot}
+use Rattle.standard.specs.Fields.{defined}
 use Rattle.standard.specs.Superblocks.{Superblock, superblock23, ValidChecksum}
 use Rattle.standard_header.specs.Handed.{Standard, decoded-standard}
 use Rattle.standard_super_block.specs.Ties.{super-block-tied, super-block-checksum}
@@ -30,13 +31,18 @@ module _ (file : List ℕ) (n longest : ℕ) (t w : List ℕ) where
     pub end : ℕ
     pub stands : Stands file superblock23 0 end superblock
     pub checksum : ValidChecksum file end superblock
+    -- its root and its end-of-file address, which are not undefined
+    pub root : ℕ
+    pub root-is : superblock .root-group-object-header-address ≡ defined root
+    pub end-of-file : ℕ
+    pub end-of-file-is : superblock .end-of-file-address ≡ defined end-of-file
     -- the header at its root address, with its widths and its end-of-file address
     pub object : DataObject
     pub words : w ≡ wordsOf object
     pub next : ℕ
     pub count : ℕ
     pub answer : object .answer ≡ answers.Read next count
-    pub header : Standard file (superblock .size-of-offsets) (superblock .size-of-lengths) (superblock .end-of-file-address) (superblock .root-group-object-header-address) n longest next count object t
+    pub header : Standard file (superblock .size-of-offsets) (superblock .size-of-lengths) end-of-file root n longest next count object t
 
   -- of every file that is not refused
   pub root-standard : 4095 ≤ longest → HandedRoot file n t w → getD w 0 0 ≡ 0 → RootIs
@@ -53,13 +59,17 @@ module _ (file : List ℕ) (n longest : ℕ) (t w : List ℕ) where
             end = q;
             stands = x .stands;
             checksum = super-block-checksum file b q (x .value) e (x .stands);
+            root = b .«root_group_object_header_address»;
+            root-is = r .root-group-object-header-address;
+            end-of-file = b .«end_of_file_address»;
+            end-of-file-is = r .end-of-file-address;
             object = d .object;
             words = d .words;
             next = next;
             count = count;
             answer = f;
             header =
-                rw (← r .size-of-offsets, ← r .size-of-lengths, ← r .end-of-file-address, ← r .root-group-object-header-address)
+                rw (← r .size-of-offsets, ← r .size-of-lengths)
                 (decoded-standard file (b .«size_of_offsets») (b .«size_of_lengths») (b .«end_of_file_address») (b .«root_group_object_header_address») n longest enough (d .object) t (d .decoded) next count f);
           }
       by-answer b q e d (answers.Refused y) f = absurd (refusal-positive y (rw (d .words, f) at z))
