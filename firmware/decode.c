@@ -8,10 +8,10 @@
  * The first takes the root group's header and the second the header at a position, both by the
  * file's own superblock; the third is for files whose superblock is not of version 2 or 3. The
  * numbers are decimal. A line for the superblock, where it is read, one for the call, one for each
- * row, one for each record; a hyphen stands where a field is absent, and names and data are written
- * as the bytes they are. A superblock or a header that is refused prints `refused,` and the
- * refusal's number. The exit status is 0 for either, and 2 where nothing could be decoded or
- * written.
+ * row, one for each record; a hyphen stands where a field is absent, `undefined` for an address that
+ * the file leaves so, and names and data are written as the bytes they are. A superblock or a header
+ * that is refused prints `refused,` and the refusal's number. The exit status is 0 for either, and 2
+ * where nothing could be decoded or written.
  */
 #include <stdio.h>
 #include <stdlib.h>
@@ -134,6 +134,28 @@ static void put_optional(dowringaf_optional field)
     put_if(field.present != 0, field.value);
 }
 
+static void put_address(dowringaf_address address)
+{
+    if (address.undefined != 0) {
+        fputs(",undefined", stdout);
+    } else {
+        put_number(address.number);
+    }
+}
+
+static void put_optional_address(dowringaf_optional_address field)
+{
+    dowringaf_address address;
+
+    address.undefined = field.undefined;
+    address.number = field.number;
+    if (field.present != 0) {
+        put_address(address);
+    } else {
+        fputs(",-", stdout);
+    }
+}
+
 /* A length and the bytes of a part of the file. */
 static void put_part(const struct bytes *file, uint64_t position, uint64_t length)
 {
@@ -212,9 +234,9 @@ static void put_link_info(const dowringaf_link_info *info)
     fputs("link_info", stdout);
     put_number(info->flags);
     put_optional(info->maximum_creation_index);
-    put_number(info->fractal_heap_address);
-    put_number(info->address_btree_index);
-    put_optional(info->address_btree_order);
+    put_address(info->fractal_heap_address);
+    put_address(info->address_btree_index);
+    put_optional_address(info->address_btree_order);
     putchar('\n');
 }
 
@@ -234,9 +256,18 @@ static void put_attribute_info(const dowringaf_attribute_info *info)
     fputs("attribute_info", stdout);
     put_number(info->flags);
     put_number(info->maximum_creation_index);
-    put_number(info->fractal_heap_address);
-    put_number(info->attribute_name_btree);
-    put_number(info->attribute_creation_order_btree);
+    put_address(info->fractal_heap_address);
+    put_address(info->attribute_name_btree);
+    put_address(info->attribute_creation_order_btree);
+    putchar('\n');
+}
+
+static void put_layout(const struct bytes *file, const dowringaf_layout *layout)
+{
+    fputs("layout", stdout);
+    put_optional_address(layout->address);
+    fputs("\ndata", stdout);
+    put_part(file, layout->data.position, layout->data.length);
     putchar('\n');
 }
 
@@ -253,7 +284,7 @@ static void put_superblock(const dowringaf_superblock *block)
     put_number(block->size_of_offsets);
     put_number(block->size_of_lengths);
     put_number(block->base_address);
-    put_number(block->superblock_extension_address);
+    put_address(block->superblock_extension_address);
     put_number(block->end_of_file_address);
     put_number(block->root_group_object_header_address);
     putchar('\n');
@@ -280,9 +311,7 @@ static void put_object(const struct bytes *file)
     put_link_info(&object.link_info);
     put_group_info(&object.group_info);
     put_attribute_info(&object.attribute_info);
-    fputs("data", stdout);
-    put_part(file, object.data.position, object.data.length);
-    putchar('\n');
+    put_layout(file, &object.layout);
 }
 
 /* The root's header, or with a number the one at that position. */

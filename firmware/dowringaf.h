@@ -51,7 +51,7 @@ extern "C" {
 enum dowringaf_refusal {
     DOWRINGAF_WIDTH = 1,                   /* a width that is not 2 to 8 */
     DOWRINGAF_FILE_SIZE = 2,               /* a file above 2,147,483,648 bytes; for the listing, above 65,536 */
-    DOWRINGAF_SHORT = 3,                   /* a needed byte lies past the file */
+    DOWRINGAF_SHORT = 3,                   /* a needed byte lies past the file; an undefined end-of-file or root */
     DOWRINGAF_SIGNATURE = 4,               /* not OHDR */
     DOWRINGAF_VERSION = 5,                 /* the header's version */
     DOWRINGAF_HEADER_FLAGS = 6,            /* bit 4 of the header's flags */
@@ -67,7 +67,7 @@ enum dowringaf_refusal {
     DOWRINGAF_FILTER_PIPELINE = 16,        /* a filter pipeline */
     DOWRINGAF_ATTRIBUTE = 17,              /* an attribute */
     DOWRINGAF_ATTRIBUTE_INFO = 18,         /* an attribute info */
-    DOWRINGAF_CONTINUATION_RANGE = 19,     /* where a continuation block lies */
+    DOWRINGAF_CONTINUATION_RANGE = 19,     /* where a continuation block lies; an undefined offset */
     DOWRINGAF_CONTINUATION_SIGNATURE = 20, /* not OCHK */
     DOWRINGAF_BLOCK_LEVEL = 21,            /* a 26th level of blocks */
     DOWRINGAF_TYPE_LEVEL = 22,             /* a 33rd level of types */
@@ -102,6 +102,22 @@ typedef struct dowringaf_optional {
     uint64_t present;
     uint64_t value;
 } dowringaf_optional;
+
+/*
+ * An address as the file has it, a number or undefined. All ones in the width of offsets are
+ * undefined: undefined is 1, and the number 0. Otherwise undefined is 0.
+ */
+typedef struct dowringaf_address {
+    uint64_t undefined;
+    uint64_t number;
+} dowringaf_address;
+
+/* An address that may be absent: present is 1, or all three words are 0. */
+typedef struct dowringaf_optional_address {
+    uint64_t present;
+    uint64_t undefined;
+    uint64_t number;
+} dowringaf_optional_address;
 
 /* The first count of the sizes, and then zeros. */
 typedef struct dowringaf_dimensions {
@@ -147,9 +163,9 @@ typedef struct dowringaf_datatype {
 typedef struct dowringaf_link_info {
     uint64_t flags;
     dowringaf_optional maximum_creation_index;
-    uint64_t fractal_heap_address;
-    uint64_t address_btree_index;
-    dowringaf_optional address_btree_order;
+    dowringaf_address fractal_heap_address;
+    dowringaf_address address_btree_index;
+    dowringaf_optional_address address_btree_order;
 } dowringaf_link_info;
 
 typedef struct dowringaf_group_info {
@@ -160,12 +176,13 @@ typedef struct dowringaf_group_info {
     dowringaf_optional length_of_entries;
 } dowringaf_group_info;
 
+/* A creation index or an address that the message does not have is 0, and not undefined. */
 typedef struct dowringaf_attribute_info {
     uint64_t flags;
     uint64_t maximum_creation_index;
-    uint64_t fractal_heap_address;
-    uint64_t attribute_name_btree;
-    uint64_t attribute_creation_order_btree;
+    dowringaf_address fractal_heap_address;
+    dowringaf_address attribute_name_btree;
+    dowringaf_address attribute_creation_order_btree;
 } dowringaf_attribute_info;
 
 /* Bytes of the file, from a position on. */
@@ -175,8 +192,19 @@ typedef struct dowringaf_part {
 } dowringaf_part;
 
 /*
+ * Where the data of a dataset lie. The address is that of contiguous data, as it is given, also
+ * where the part is empty, which is 0 and 0: where the address is undefined, 0, or not below the
+ * end-of-file address, and where the size is 0. Compact data have no address, and an empty part.
+ */
+typedef struct dowringaf_layout {
+    dowringaf_optional_address address;
+    dowringaf_part data; /* for dowringaf_layout_data */
+} dowringaf_layout;
+
+/*
  * An object header. Where it is refused, every word but the first is 0. Of each record the header's
- * last message wins; where there is none, the record's words are 0.
+ * last message wins; where there is none, the record's words are 0, and so no address of it is
+ * undefined.
  */
 typedef struct dowringaf_object {
     uint64_t refused; /* 0, or an enum dowringaf_refusal */
@@ -188,7 +216,7 @@ typedef struct dowringaf_object {
     dowringaf_link_info link_info;
     dowringaf_group_info group_info;
     dowringaf_attribute_info attribute_info;
-    dowringaf_part data; /* where the data lie: for dowringaf_layout_data */
+    dowringaf_layout layout;
 } dowringaf_object;
 
 /* A lookup. Where it is refused or nothing is found, every word but the first is 0. */
@@ -200,23 +228,24 @@ typedef struct dowringaf_found {
 
 /*
  * A superblock, each number as it stands in the file. Where it is refused, every word but the first
- * is 0. Sizes are in bytes. An address that the file leaves undefined has all ones in its bytes.
+ * is 0. Sizes are in bytes.
  */
 typedef struct dowringaf_superblock {
     uint64_t refused; /* 0, or an enum dowringaf_refusal */
     uint64_t size_of_offsets;
     uint64_t size_of_lengths;
     uint64_t base_address; /* 0, since any other is refused */
-    uint64_t superblock_extension_address;
-    uint64_t end_of_file_address;
-    uint64_t root_group_object_header_address;
+    dowringaf_address superblock_extension_address; /* undefined where there is no extension */
+    uint64_t end_of_file_address; /* a number, since an undefined one is refused */
+    uint64_t root_group_object_header_address; /* likewise */
 } dowringaf_superblock;
 
 /*
  * Decodes the object header at a position of a file into a table of table_words words: a row of ten
  * words for each message, in the header's order, then zeros. A header that is refused leaves the
  * whole table zero. Writes every word of the object. What stood in the table and the object before
- * makes no difference. Widths are in bytes.
+ * makes no difference. Widths are in bytes. The position and end_of_file are numbers, whatever they
+ * are; only an address that is read from the file may be undefined.
  *
  * The header and every block that it leads to must close with the standard's checksum of their
  * bytes (Jenkins' lookup3 with an initial value of 0), or the header is refused with
@@ -248,8 +277,9 @@ dowringaf_part dowringaf_layout_data(const uint8_t *file, size_t file_bytes, siz
  * Reads the superblock at byte 0 of a file: signature, version, sizes of offsets and of lengths,
  * flags, the four addresses in the struct's order, checksum. After the file's size, the first of
  * them counts that leaves the file, which is DOWRINGAF_SHORT, or that is not as it must be, which
- * has its own number. The checksum must be that of all bytes before it; the flags may be any. No
- * address but the base is tested, and none is compared with file_bytes.
+ * has its own number. The base address must be 0; an end-of-file or root address that is undefined
+ * is DOWRINGAF_SHORT, as one that is not there; the extension's may be undefined. The checksum must
+ * be that of all bytes before it; the flags may be any. No address is compared with file_bytes.
  */
 dowringaf_superblock dowringaf_super_block(const uint8_t *file, size_t file_bytes);
 
