@@ -17,17 +17,20 @@
 #define HAS_WORDS(type, n) typedef char type##_has_its_words[sizeof(type) == (n) * 8 ? 1 : -1]
 
 HAS_WORDS(dowringaf_optional, 2);
+HAS_WORDS(dowringaf_address, 2);
+HAS_WORDS(dowringaf_optional_address, 3);
 HAS_WORDS(dowringaf_dimensions, 5);
 HAS_WORDS(dowringaf_dataspace, 14);
 HAS_WORDS(dowringaf_format, 8);
 HAS_WORDS(dowringaf_datatype, 13);
-HAS_WORDS(dowringaf_link_info, 7);
+HAS_WORDS(dowringaf_link_info, 10);
 HAS_WORDS(dowringaf_group_info, 9);
-HAS_WORDS(dowringaf_attribute_info, 5);
+HAS_WORDS(dowringaf_attribute_info, 8);
 HAS_WORDS(dowringaf_part, 2);
-HAS_WORDS(dowringaf_object, 54);
+HAS_WORDS(dowringaf_layout, 5);
+HAS_WORDS(dowringaf_object, 63);
 HAS_WORDS(dowringaf_found, 3);
-HAS_WORDS(dowringaf_superblock, 7);
+HAS_WORDS(dowringaf_superblock, 8);
 
 static unsigned long compared = 0;
 static unsigned long failed = 0;
@@ -135,6 +138,33 @@ static size_t entry(struct writer *w, int type, int size, int flags)
     put(w, (uint64_t)size, 2);
     put(w, (uint64_t)flags, 1);
     return w->count;
+}
+
+/* All ones in a width. */
+static uint64_t most(int width)
+{
+    return UINT64_MAX >> (64 - 8 * width);
+}
+
+/* What is handed over of an address that stands in a width. */
+static dowringaf_address address_of(uint64_t stored, int width)
+{
+    dowringaf_address address;
+
+    address.undefined = stored == most(width) ? 1 : 0;
+    address.number = stored == most(width) ? 0 : stored;
+    return address;
+}
+
+static dowringaf_optional_address present_address_of(uint64_t stored, int width)
+{
+    dowringaf_address address = address_of(stored, width);
+    dowringaf_optional_address present;
+
+    present.present = 1;
+    present.undefined = address.undefined;
+    present.number = address.number;
+    return present;
 }
 
 /* The bytes of a superblock's signature, and where other fields begin. */
@@ -259,12 +289,12 @@ static void write_dataspace(struct writer *w, struct places *p)
 }
 
 /* The superblock in front of the full header. */
-static void write_front(struct writer *w, uint64_t end)
+static void write_front(struct writer *w, uint64_t extension, uint64_t end)
 {
     size_t count = w->count;
 
     w->count = 0;
-    put_superblock(w, OFFSET, LENGTH, UINT64_MAX, end, HEADER_FROM);
+    put_superblock(w, OFFSET, LENGTH, extension, end, HEADER_FROM);
     w->count = count;
 }
 
@@ -294,7 +324,18 @@ static void write_full(struct writer *w, struct places *p)
     w->bytes[HEADER_FROM + 6] = (uint8_t)(w->count - HEADER_FROM - 8);
     put_sum(w, HEADER_FROM);
     put_text(w, "the bytes");
-    write_front(w, w->count);
+    write_front(w, 0xA1A2A3A4A5A6A7A8u, w->count);
+}
+
+/* The same file with every address undefined that may be. */
+static void write_undefined(struct writer *w, struct places *p)
+{
+    write_full(w, p);
+    memset(w->bytes + p->body[2] + 10, 255, 3 * OFFSET);
+    memset(w->bytes + p->body[4] + 4, 255, 3 * OFFSET);
+    memset(w->bytes + p->body[6] + 2, 255, OFFSET);
+    make_true(w->bytes, HEADER_FROM, p->next - 4);
+    write_front(w, UINT64_MAX, w->count);
 }
 
 static void compare_spaces(const dowringaf_dataspace *s)
@@ -337,10 +378,13 @@ static void compare_infos(const dowringaf_object *o)
     IS(o->link_info.flags, 67);
     IS(o->link_info.maximum_creation_index.present, 1);
     IS(o->link_info.maximum_creation_index.value, 0x1112131415161718u);
-    IS(o->link_info.fractal_heap_address, 0x2122232425262728u);
-    IS(o->link_info.address_btree_index, 0x3132333435363738u);
+    IS(o->link_info.fractal_heap_address.undefined, 0);
+    IS(o->link_info.fractal_heap_address.number, 0x2122232425262728u);
+    IS(o->link_info.address_btree_index.undefined, 0);
+    IS(o->link_info.address_btree_index.number, 0x3132333435363738u);
     IS(o->link_info.address_btree_order.present, 1);
-    IS(o->link_info.address_btree_order.value, 0x4142434445464748u);
+    IS(o->link_info.address_btree_order.undefined, 0);
+    IS(o->link_info.address_btree_order.number, 0x4142434445464748u);
     IS(o->group_info.flags, 131);
     IS(o->group_info.maximum_compact_value.present, 1);
     IS(o->group_info.maximum_compact_value.value, 0x5152);
@@ -352,9 +396,12 @@ static void compare_infos(const dowringaf_object *o)
     IS(o->group_info.length_of_entries.value, 0x5758);
     IS(o->attribute_info.flags, 195);
     IS(o->attribute_info.maximum_creation_index, 0x6162);
-    IS(o->attribute_info.fractal_heap_address, 0x7172737475767778u);
-    IS(o->attribute_info.attribute_name_btree, 0x8182838485868788u);
-    IS(o->attribute_info.attribute_creation_order_btree, 0x9192939495969798u);
+    IS(o->attribute_info.fractal_heap_address.undefined, 0);
+    IS(o->attribute_info.fractal_heap_address.number, 0x7172737475767778u);
+    IS(o->attribute_info.attribute_name_btree.undefined, 0);
+    IS(o->attribute_info.attribute_name_btree.number, 0x8182838485868788u);
+    IS(o->attribute_info.attribute_creation_order_btree.undefined, 0);
+    IS(o->attribute_info.attribute_creation_order_btree.number, 0x9192939495969798u);
 }
 
 /* The rows, the name and the parts among them, and zeros after them. */
@@ -420,8 +467,11 @@ static void test_full(void)
     compare_spaces(&o->dataspace);
     compare_types(&o->datatype);
     compare_infos(o);
-    IS(o->data.position, p.data);
-    IS(o->data.length, 9);
+    IS(o->layout.address.present, 1);
+    IS(o->layout.address.undefined, 0);
+    IS(o->layout.address.number, p.data);
+    IS(o->layout.data.position, p.data);
+    IS(o->layout.data.length, 9);
     compare_rows(table, words, &p);
     look_up(file, w.count, table, words, MESSAGES, "Unit", 0, 1, 5);
     look_up(file, w.count, table, words, MESSAGES, "Units", 0, 0, 0);
@@ -430,7 +480,7 @@ static void test_full(void)
     look_up(file, p.name + 3, table, words, MESSAGES, "Unit", 0, 0, 0);
     look_up(file, w.count, table, words, words / DOWRINGAF_ROW_WORDS + 1, "Unit", DOWRINGAF_TABLE, 0, 0);
     look_up(NULL, 0, NULL, 0, 0, "", 0, 0, 0);
-    part = dowringaf_layout_data(file, w.count, o->data.position, o->data.length);
+    part = dowringaf_layout_data(file, w.count, o->layout.data.position, o->layout.data.length);
     IS(part.position, p.data);
     IS(part.length, 9);
     IS((uint64_t)memcmp(file + part.position, "the bytes", 9), 0);
@@ -453,19 +503,25 @@ static void compare_zeros(const dowringaf_object *o, const uint64_t *table, size
     }
 }
 
-static void refuse(const uint8_t *bytes, size_t n, uint64_t position, uint64_t offset_width,
-                   size_t words, uint64_t number)
+static void refuse_below(const uint8_t *bytes, size_t n, uint64_t position, uint64_t offset_width,
+                         uint64_t end, size_t words, uint64_t number)
 {
     uint8_t *file = copy(bytes, n);
     uint64_t *table = ones(words);
     dowringaf_object *o = object_of_ones();
 
-    dowringaf_data_object(file, n, position, offset_width, LENGTH, 1024, table, words, o);
+    dowringaf_data_object(file, n, position, offset_width, LENGTH, end, table, words, o);
     IS(o->refused, number);
     compare_zeros(o, table, words);
     free(file);
     free(table);
     free(o);
+}
+
+static void refuse(const uint8_t *bytes, size_t n, uint64_t position, uint64_t offset_width,
+                   size_t words, uint64_t number)
+{
+    refuse_below(bytes, n, position, offset_width, 1024, words, number);
 }
 
 /* Refusals: every cut of the full header is short, and leaves nothing but zeros. */
@@ -601,8 +657,9 @@ static void test_fixed(void)
     IS(o->datatype.format.exponent_bias, 0);
     IS(o->dataspace.kind.present, 0);
     IS(o->group_info.maximum_compact_value.present, 0);
-    IS(o->data.position, 0);
-    IS(o->data.length, 0);
+    IS(o->layout.address.present, 0);
+    IS(o->layout.data.position, 0);
+    IS(o->layout.data.length, 0);
     free(file);
     free(table);
     free(o);
@@ -645,6 +702,316 @@ static void test_block(void)
     free(file);
     free(table);
     free(o);
+}
+
+/* The header at a position, word for word. */
+static void object_is(const uint8_t *bytes, size_t n, uint64_t position, int width, uint64_t end,
+                      const dowringaf_object *expected)
+{
+    uint8_t *file = copy(bytes, n);
+    uint64_t *table = ones(75);
+    dowringaf_object *o = object_of_ones();
+    size_t i;
+
+    dowringaf_data_object(file, n, position, (uint64_t)width, LENGTH, end, table, 75, o);
+    for (i = 0; i < sizeof *o / sizeof(uint64_t); i++) {
+        IS(((const uint64_t *)o)[i], ((const uint64_t *)expected)[i]);
+    }
+    free(file);
+    free(table);
+    free(o);
+}
+
+/* A header at the file's beginning. Its entries follow, and what closes it. */
+static void begin_header(struct writer *w)
+{
+    w->count = 0;
+    put_text(w, "OHDR");
+    put(w, 2, 1);
+    put(w, 0, 2);
+}
+
+static void end_header(struct writer *w)
+{
+    w->bytes[6] = (uint8_t)(w->count - 7);
+    put_sum(w, 0);
+}
+
+/* What is read of a header with some messages, before their records. */
+static dowringaf_object read_messages(const struct writer *w, uint64_t messages)
+{
+    dowringaf_object o;
+
+    memset(&o, 0, sizeof o);
+    o.next = w->count;
+    o.entries = messages;
+    o.rows = messages;
+    return o;
+}
+
+static void put_addresses(struct writer *w, const uint64_t *addresses, int count, int width)
+{
+    int i;
+
+    for (i = 0; i < count; i++) {
+        put(w, addresses[i], width);
+    }
+}
+
+static void put_contiguous(struct writer *w, uint64_t address, uint64_t size, int width)
+{
+    entry(w, 8, 2 + width + LENGTH, 0);
+    put(w, 3, 1);
+    put(w, 1, 1);
+    put(w, address, width);
+    put(w, size, LENGTH);
+}
+
+/* Three of a link info, three of an attribute info, and that of a layout. */
+enum { ADDRESSES = 7 };
+
+static void write_addresses(struct writer *w, const uint64_t a[ADDRESSES], int width)
+{
+    begin_header(w);
+    entry(w, 2, 10 + 3 * width, 0);
+    put(w, 0, 1);
+    put(w, 3, 1);
+    put(w, 11, 8);
+    put_addresses(w, a, 3, width);
+    entry(w, 21, 4 + 3 * width, 0);
+    put(w, 0, 1);
+    put(w, 3, 1);
+    put(w, 13, 2);
+    put_addresses(w, a + 3, 3, width);
+    put_contiguous(w, a[6], 1, width);
+    end_header(w);
+}
+
+/* The end is such that the data are not in the file, or their address is undefined. */
+static void addresses_are(const uint64_t a[ADDRESSES], int width, uint64_t end)
+{
+    struct writer w;
+    dowringaf_object o;
+
+    write_addresses(&w, a, width);
+    o = read_messages(&w, 3);
+    o.link_info.flags = 3;
+    o.link_info.maximum_creation_index.present = 1;
+    o.link_info.maximum_creation_index.value = 11;
+    o.link_info.fractal_heap_address = address_of(a[0], width);
+    o.link_info.address_btree_index = address_of(a[1], width);
+    o.link_info.address_btree_order = present_address_of(a[2], width);
+    o.attribute_info.flags = 3;
+    o.attribute_info.maximum_creation_index = 13;
+    o.attribute_info.fractal_heap_address = address_of(a[3], width);
+    o.attribute_info.attribute_name_btree = address_of(a[4], width);
+    o.attribute_info.attribute_creation_order_btree = address_of(a[5], width);
+    o.layout.address = present_address_of(a[6], width);
+    object_is(w.bytes, w.count, 0, width, end, &o);
+}
+
+static void all_addresses_are(uint64_t number, int width, uint64_t end)
+{
+    uint64_t a[ADDRESSES];
+    int i;
+
+    for (i = 0; i < ADDRESSES; i++) {
+        a[i] = number;
+    }
+    addresses_are(a, width, end);
+}
+
+/* One address is undefined and the others are numbers, and the other way round. */
+static void one_address_is(int which, int width)
+{
+    uint64_t a[ADDRESSES];
+    uint64_t others[ADDRESSES];
+    int i;
+
+    for (i = 0; i < ADDRESSES; i++) {
+        a[i] = i == which ? most(width) : (uint64_t)(i + 17);
+        others[i] = i == which ? (uint64_t)(i + 17) : most(width);
+    }
+    addresses_are(a, width, 0);
+    addresses_are(others, width, 0);
+}
+
+/* All ones in the width are undefined. Those but one bit, and those of a smaller width, are not. */
+static void test_addresses(void)
+{
+    int width;
+    int i;
+
+    for (width = 2; width <= 8; width++) {
+        all_addresses_are(most(width), width, 0);
+        all_addresses_are(most(width), width, UINT64_MAX);
+        for (i = 0; i < 8 * width; i++) {
+            all_addresses_are(most(width) ^ (uint64_t)1 << i, width, 0);
+        }
+        for (i = 1; i < width; i++) {
+            all_addresses_are(most(i), width, 0);
+        }
+        for (i = 0; i < ADDRESSES; i++) {
+            one_address_is(i, width);
+        }
+    }
+}
+
+/* What is not stored is absent or 0, and not undefined; so is the address of compact data. */
+static void test_absent_addresses(void)
+{
+    static const uint64_t undefined[2] = {UINT64_MAX, UINT64_MAX};
+    struct writer w;
+    dowringaf_object o;
+    int width;
+
+    for (width = 2; width <= 8; width++) {
+        begin_header(&w);
+        entry(&w, 2, 2 + 2 * width, 0);
+        put(&w, 0, 2);
+        put_addresses(&w, undefined, 2, width);
+        entry(&w, 21, 2 + 2 * width, 0);
+        put(&w, 0, 2);
+        put_addresses(&w, undefined, 2, width);
+        put_contiguous(&w, most(width), 1, width);
+        entry(&w, 8, 12, 0);
+        put(&w, 3, 2);
+        put(&w, 8, 2);
+        put_addresses(&w, undefined, 1, 8);
+        end_header(&w);
+        o = read_messages(&w, 4);
+        o.link_info.fractal_heap_address.undefined = 1;
+        o.link_info.address_btree_index.undefined = 1;
+        o.attribute_info.fractal_heap_address.undefined = 1;
+        o.attribute_info.attribute_name_btree.undefined = 1;
+        object_is(w.bytes, w.count, 0, width, UINT64_MAX, &o);
+    }
+}
+
+/* A header of one layout, in a file of some bytes more: its address, and its part. */
+static void data_are(uint64_t address, uint64_t size, int width, size_t n, uint64_t end,
+                     uint64_t position, uint64_t length)
+{
+    uint8_t *file = block(n, 1);
+    struct writer w;
+    dowringaf_object o;
+
+    begin_header(&w);
+    put_contiguous(&w, address, size, width);
+    end_header(&w);
+    memset(file, 0, n);
+    memcpy(file, w.bytes, w.count);
+    o = read_messages(&w, 1);
+    o.layout.address = present_address_of(address, width);
+    o.layout.data.position = position;
+    o.layout.data.length = length;
+    object_is(file, n, 0, width, end, &o);
+    free(file);
+}
+
+static void refuse_data(uint64_t address, uint64_t size, int width, uint64_t end, uint64_t number)
+{
+    struct writer w;
+
+    begin_header(&w);
+    put_contiguous(&w, address, size, width);
+    end_header(&w);
+    refuse_below(w.bytes, w.count, 0, (uint64_t)width, end, 75, number);
+}
+
+/* The bytes of a file that has the byte at 65535, which a width of 2 has no address for. */
+enum { FAR = 65535, FAR_BYTES = FAR + 32 };
+
+/* The address stands beside the part, also where that is empty; an undefined one has no data. */
+static void test_data(void)
+{
+    enum { ROOM = 64, SIZE_LIMIT = 268435456 };
+    int width;
+
+    for (width = 2; width <= 8; width++) {
+        data_are(1, 3, width, ROOM, 2, 1, 3);
+        data_are(1, 0, width, ROOM, 2, 0, 0);
+        data_are(2, 3, width, ROOM, 2, 0, 0);
+        data_are(0, 3, width, ROOM, UINT64_MAX, 0, 0);
+        data_are(most(width) - 1, 3, width, ROOM, most(width) - 1, 0, 0);
+        refuse_data(most(width) - 1, 3, width, most(width), DOWRINGAF_SHORT);
+        data_are(most(width), 3, width, ROOM, 2, 0, 0);
+        data_are(most(width), 0, width, ROOM, UINT64_MAX, 0, 0);
+        data_are(most(width), SIZE_LIMIT - 1, width, ROOM, UINT64_MAX, 0, 0);
+        refuse_data(most(width), SIZE_LIMIT, width, UINT64_MAX, DOWRINGAF_LAYOUT);
+        refuse_data(most(width), SIZE_LIMIT, width, 2, DOWRINGAF_LAYOUT);
+    }
+    data_are(FAR - 1, 2, 2, FAR_BYTES, FAR_BYTES, FAR - 1, 2);
+    data_are(FAR, 2, 2, FAR_BYTES, FAR_BYTES, 0, 0);
+    data_are(FAR, 2, 3, FAR_BYTES, FAR_BYTES, FAR, 2);
+}
+
+/* An undefined offset is refused before the length, which is or is not there, whatever the end. */
+static void test_continuations(void)
+{
+    struct writer w;
+    int width;
+
+    for (width = 2; width <= 8; width++) {
+        uint64_t offset = most(width) - 1;
+        size_t length_at;
+
+        begin_header(&w);
+        length_at = entry(&w, 16, width + LENGTH, 0) + (size_t)width;
+        put(&w, offset, width);
+        put(&w, 8, LENGTH);
+        end_header(&w);
+        refuse_below(w.bytes, length_at, 0, (uint64_t)width, most(width), 75, DOWRINGAF_SHORT);
+        refuse_below(w.bytes, w.count, 0, (uint64_t)width, offset + 1, 75,
+                     DOWRINGAF_CONTINUATION_RANGE);
+        w.bytes[length_at - (size_t)width] = 255;
+        refuse_below(w.bytes, length_at, 0, (uint64_t)width, UINT64_MAX, 75,
+                     DOWRINGAF_CONTINUATION_RANGE);
+        make_true(w.bytes, 0, w.count - 4);
+        refuse_below(w.bytes, w.count, 0, (uint64_t)width, UINT64_MAX, 75,
+                     DOWRINGAF_CONTINUATION_RANGE);
+    }
+}
+
+/* A header that leads to a block without entries, which stands far behind it. */
+static uint8_t *far_block(uint64_t offset, int width, dowringaf_object *expected)
+{
+    uint8_t *file = block(FAR_BYTES, 1);
+    struct writer w;
+
+    begin_header(&w);
+    entry(&w, 16, width + LENGTH, 0);
+    put(&w, offset, width);
+    put(&w, 8, LENGTH);
+    end_header(&w);
+    *expected = read_messages(&w, 0);
+    expected->entries = 1;
+    memset(file, 0, FAR_BYTES);
+    memcpy(file, w.bytes, w.count);
+    memcpy(file + offset, "OCHK", 4);
+    make_true(file, offset, offset + 4);
+    return file;
+}
+
+/* In a width of 2 a block at 65535 is not led to, although it is there. */
+static void test_far_blocks(void)
+{
+    static const struct {
+        uint64_t offset;
+        int width;
+    } read[2] = {{FAR - 1, 2}, {FAR, 3}};
+    dowringaf_object o;
+    uint8_t *file;
+    int i;
+
+    for (i = 0; i < 2; i++) {
+        file = far_block(read[i].offset, read[i].width, &o);
+        object_is(file, FAR_BYTES, 0, read[i].width, FAR_BYTES, &o);
+        free(file);
+    }
+    file = far_block(FAR, 2, &o);
+    refuse_below(file, FAR_BYTES, 0, 2, FAR_BYTES, 75, DOWRINGAF_CONTINUATION_RANGE);
+    free(file);
 }
 
 static void part_is(size_t position, size_t length, uint64_t got_position, uint64_t got_length)
@@ -747,7 +1114,9 @@ static void superblock_is(const struct writer *w, const dowringaf_superblock *ex
     IS(block.size_of_offsets, expected->size_of_offsets);
     IS(block.size_of_lengths, expected->size_of_lengths);
     IS(block.base_address, expected->base_address);
-    IS(block.superblock_extension_address, expected->superblock_extension_address);
+    IS(block.superblock_extension_address.undefined,
+       expected->superblock_extension_address.undefined);
+    IS(block.superblock_extension_address.number, expected->superblock_extension_address.number);
     IS(block.end_of_file_address, expected->end_of_file_address);
     IS(block.root_group_object_header_address, expected->root_group_object_header_address);
     free(file);
@@ -774,7 +1143,7 @@ static void refuse_root(const uint8_t *bytes, size_t n, uint64_t number)
 /* Refused with a number as a superblock, as a root and as a listing; all else is zero. */
 static void refuse_superblock(const uint8_t *bytes, size_t n, uint64_t number)
 {
-    static const dowringaf_superblock zeros = {0, 0, 0, 0, 0, 0, 0};
+    static const dowringaf_superblock zeros = {0, 0, 0, 0, {0, 0}, 0, 0};
     uint8_t *file = copy(bytes, n);
     dowringaf_superblock block = dowringaf_super_block(file, n);
 
@@ -792,13 +1161,30 @@ static void write_own(struct writer *w)
     put_superblock(w, 7, 4, 0x21222324252627u, 0x31323334353637u, 0x41424344454647u);
 }
 
+/* Three addresses of a superblock that is read. */
+static void addresses_are_read(int width, uint64_t extension, uint64_t end, uint64_t root)
+{
+    dowringaf_superblock expected = {0, 0, 0, 0, {0, 0}, 0, 0};
+    struct writer w;
+
+    w.count = 0;
+    put_superblock(&w, width, 10 - width, extension, end, root);
+    expected.size_of_offsets = (uint64_t)width;
+    expected.size_of_lengths = (uint64_t)(10 - width);
+    expected.superblock_extension_address = address_of(extension, width);
+    expected.end_of_file_address = end;
+    expected.root_group_object_header_address = root;
+    superblock_is(&w, &expected);
+}
+
 /* Every word, in both versions and with each width, of files that end with the superblock. */
 static void test_superblock(void)
 {
     static const dowringaf_superblock own = {
-        0, 7, 4, 0, 0x21222324252627u, 0x31323334353637u, 0x41424344454647u};
+        0, 7, 4, 0, {0, 0x21222324252627u}, 0x31323334353637u, 0x41424344454647u};
     struct writer w;
     int width;
+    int bit;
 
     write_own(&w);
     superblock_is(&w, &own);
@@ -806,17 +1192,13 @@ static void test_superblock(void)
     make_true(w.bytes, 0, w.count - 4);
     superblock_is(&w, &own);
     for (width = 2; width <= 8; width++) {
-        dowringaf_superblock wide = own;
-        uint64_t most = UINT64_MAX >> (64 - 8 * width);
+        addresses_are_read(width, most(width), most(width) - 1, most(width) - 1);
+        addresses_are_read(width, 0, 0, 0);
+        for (bit = 0; bit < 8 * width; bit++) {
+            uint64_t number = most(width) ^ (uint64_t)1 << bit;
 
-        w.count = 0;
-        put_superblock(&w, width, 10 - width, UINT64_MAX, UINT64_MAX, UINT64_MAX);
-        wide.size_of_offsets = (uint64_t)width;
-        wide.size_of_lengths = (uint64_t)(10 - width);
-        wide.superblock_extension_address = most;
-        wide.end_of_file_address = most;
-        wide.root_group_object_header_address = most;
-        superblock_is(&w, &wide);
+            addresses_are_read(width, number, number, number);
+        }
     }
 }
 
@@ -860,6 +1242,29 @@ static void test_refused_superblocks(void)
         write_own(&w);
         w.bytes[i] = 0x80;
         refuse_field(&w, DOWRINGAF_BASE_ADDRESS);
+    }
+}
+
+/* An end-of-file or a root address that is undefined is as one that is not there. */
+static void test_undefined_superblocks(void)
+{
+    struct writer w;
+    int width;
+    int which;
+
+    for (width = 2; width <= 8; width++) {
+        for (which = 1; which < 4; which++) {
+            uint64_t end = which & 1 ? most(width) : 5;
+            uint64_t root = which & 2 ? most(width) : 7;
+
+            w.count = 0;
+            put_superblock(&w, width, LENGTH, most(width), end, root);
+            refuse_superblock(w.bytes, w.count, DOWRINGAF_SHORT);
+            w.bytes[w.count - 1] ^= 1;
+            refuse_superblock(w.bytes, w.count, DOWRINGAF_SHORT);
+            memset(w.bytes + BASE_AT, 255, (size_t)width);
+            refuse_field(&w, DOWRINGAF_BASE_ADDRESS);
+        }
     }
 }
 
@@ -934,20 +1339,66 @@ static void test_root(void)
     ends[0] = 0;
     ends[1] = p.data;
     ends[2] = p.data + 1;
-    ends[3] = UINT64_MAX;
+    ends[3] = UINT64_MAX - 1;
     for (i = 0; i < 4; i++) {
-        write_front(&w, ends[i]);
+        write_front(&w, UINT64_MAX, ends[i]);
         root_is_by_hand(&w, w.count, ends[i], 75, MESSAGES);
     }
     for (i = SUPERBLOCK; i < w.count; i++) {
-        root_is_by_hand(&w, i, UINT64_MAX, 75, 0);
+        root_is_by_hand(&w, i, ends[3], 75, 0);
     }
-    root_is_by_hand(&w, w.count, UINT64_MAX, 69, 0);
-    root_is_by_hand(&w, w.count, UINT64_MAX, 0, 0);
+    root_is_by_hand(&w, w.count, ends[3], 69, 0);
+    root_is_by_hand(&w, w.count, ends[3], 0, 0);
+    write_undefined(&w, &p);
+    root_is_by_hand(&w, w.count, w.count, 75, MESSAGES);
     dowringaf_root_object(NULL, 0, NULL, 0, o);
     IS(o->refused, DOWRINGAF_SHORT);
     compare_zeros(o, NULL, 0);
     free(o);
+}
+
+/* A file whose root's header has no entries and stands far behind the superblock. */
+static uint8_t *far_root(uint64_t root, int width)
+{
+    uint8_t *file = block(FAR_BYTES, 1);
+    struct writer w;
+
+    w.count = 0;
+    put_superblock(&w, width, LENGTH, most(width), FAR - 1, root);
+    memset(file, 0, FAR_BYTES);
+    memcpy(file, w.bytes, w.count);
+    memcpy(file + root, "OHDR\2\0\0", 7);
+    make_true(file, root, root + 7);
+    return file;
+}
+
+static void far_root_is(uint64_t root, int width, uint64_t refused)
+{
+    uint8_t *file = far_root(root, width);
+    uint64_t *table = ones(75);
+    dowringaf_object *o = object_of_ones();
+
+    dowringaf_root_object(file, FAR_BYTES, table, 75, o);
+    IS(o->refused, refused);
+    IS(o->next, refused == 0 ? root + 11 : 0);
+    free(file);
+    free(table);
+    free(o);
+}
+
+/* In a width of 2 a root at 65535 is not read, although it is there; by hand its place is a number. */
+static void test_far_roots(void)
+{
+    uint8_t *file = far_root(FAR, 2);
+    dowringaf_object expected;
+
+    far_root_is(FAR - 1, 2, 0);
+    far_root_is(FAR, 2, DOWRINGAF_SHORT);
+    far_root_is(FAR, 3, 0);
+    memset(&expected, 0, sizeof expected);
+    expected.next = FAR + 11;
+    object_is(file, FAR_BYTES, FAR, 2, FAR, &expected);
+    free(file);
 }
 
 /* Something that closes with a sum: where that begins and stands, and a byte that may be any. */
@@ -1002,7 +1453,7 @@ static void write_nested(struct writer *w, struct closing c[CLOSINGS])
         }
         put_closing(w, &c[i]);
     }
-    write_front(w, w->count);
+    write_front(w, UINT64_MAX, w->count);
     c[0].from = 0;
     c[0].end = SUPERBLOCK - 4;
     c[0].any = FLAGS_AT;
@@ -1094,27 +1545,39 @@ static void test_sum_order(void)
     }
 }
 
-/* Writes the file of the full header, for another program to read. */
-static int write_file(const char *path)
+static int write_file(const char *path, const struct writer *w)
+{
+    FILE *stream = fopen(path, "wb");
+    int written = 0;
+
+    if (stream != NULL) {
+        written = fwrite(w->bytes, 1, w->count, stream) == w->count;
+        written = fclose(stream) == 0 && written;
+    }
+    if (!written) {
+        fprintf(stderr, "%s: cannot be written\n", path);
+    }
+    return written;
+}
+
+/* Writes two files for another program to read: the full header, and it with undefined addresses. */
+static int write_files(const char *full, const char *undefined)
 {
     struct writer w;
     struct places p;
-    FILE *stream = fopen(path, "wb");
-    int written;
 
-    if (stream == NULL) {
+    write_full(&w, &p);
+    if (!write_file(full, &w)) {
         return 0;
     }
-    write_full(&w, &p);
-    written = fwrite(w.bytes, 1, w.count, stream) == w.count;
-    return fclose(stream) == 0 && written;
+    write_undefined(&w, &p);
+    return write_file(undefined, &w);
 }
 
-/* With a path, also writes the file of the full header there. */
+/* With two paths, also writes the two files there. */
 int main(int count, char **words)
 {
-    if (count == 2 && !write_file(words[1])) {
-        fprintf(stderr, "%s: cannot be written\n", words[1]);
+    if (count == 3 && !write_files(words[1], words[2])) {
         return 2;
     }
     test_full();
@@ -1123,13 +1586,20 @@ int main(int count, char **words)
     test_headers();
     test_fixed();
     test_block();
+    test_addresses();
+    test_absent_addresses();
+    test_data();
+    test_continuations();
+    test_far_blocks();
     test_parts();
     test_listing();
     test_large_listing();
     test_superblock();
     test_refused_superblocks();
+    test_undefined_superblocks();
     test_superblock_order();
     test_root();
+    test_far_roots();
     test_sums();
     test_sum_order();
     printf("%lu compared, %lu failed\n", compared, failed);
