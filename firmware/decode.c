@@ -8,10 +8,10 @@
  * The first takes the root group's header and the second the header at a position, both by the
  * file's own superblock; the third is for files whose superblock is not of version 2 or 3. The
  * numbers are decimal. A line for the superblock, where it is read, one for the call, one for each
- * row, one for each record; a hyphen stands where a field is absent, `undefined` for an address that
- * the file leaves so, and names and data are written as the bytes they are. A superblock or a header
- * that is refused prints `refused,` and the refusal's number. The exit status is 0 for either, and 2
- * where nothing could be decoded or written.
+ * row, one for each record; a hyphen stands where a field is absent, `undefined` where an address
+ * is, and names and data are written as the bytes they are. A superblock or a header that is
+ * refused prints `refused,` and the refusal's number. The exit status is 0 for either, and 2 where
+ * nothing could be decoded or written.
  */
 #include <stdio.h>
 #include <stdlib.h>

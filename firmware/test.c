@@ -404,6 +404,15 @@ static void compare_infos(const dowringaf_object *o)
     IS(o->attribute_info.attribute_creation_order_btree.number, 0x9192939495969798u);
 }
 
+static void compare_layouts(const dowringaf_layout *l, uint64_t data)
+{
+    IS(l->address.present, 1);
+    IS(l->address.undefined, 0);
+    IS(l->address.number, data);
+    IS(l->data.position, data);
+    IS(l->data.length, 9);
+}
+
 /* The rows, the name and the parts among them, and zeros after them. */
 static void compare_rows(const uint64_t *table, size_t words, const struct places *p)
 {
@@ -467,11 +476,7 @@ static void test_full(void)
     compare_spaces(&o->dataspace);
     compare_types(&o->datatype);
     compare_infos(o);
-    IS(o->layout.address.present, 1);
-    IS(o->layout.address.undefined, 0);
-    IS(o->layout.address.number, p.data);
-    IS(o->layout.data.position, p.data);
-    IS(o->layout.data.length, 9);
+    compare_layouts(&o->layout, p.data);
     compare_rows(table, words, &p);
     look_up(file, w.count, table, words, MESSAGES, "Unit", 0, 1, 5);
     look_up(file, w.count, table, words, MESSAGES, "Units", 0, 0, 0);
@@ -620,6 +625,21 @@ static void test_headers(void)
     free(file);
 }
 
+/* A header at the file's beginning. Its entries follow, and what closes it. */
+static void begin_header(struct writer *w)
+{
+    w->count = 0;
+    put_text(w, "OHDR");
+    put(w, 2, 1);
+    put(w, 0, 2);
+}
+
+static void end_header(struct writer *w)
+{
+    w->bytes[6] = (uint8_t)(w->count - 7);
+    put_sum(w, 0);
+}
+
 /* A fixed-point type, and no other record. */
 static void test_fixed(void)
 {
@@ -628,18 +648,14 @@ static void test_fixed(void)
     uint64_t *table = ones(DOWRINGAF_ROW_WORDS);
     dowringaf_object *o = object_of_ones();
 
-    w.count = 0;
-    put_text(&w, "OHDR");
-    put(&w, 2, 1);
-    put(&w, 0, 1);
-    put(&w, 16, 1);
+    begin_header(&w);
     entry(&w, 3, 12, 0);
     put(&w, 0x10, 1);
     put(&w, 8, 3);
     put(&w, 4, 4);
     put(&w, 5, 2);
     put(&w, 27, 2);
-    put_sum(&w, 0);
+    end_header(&w);
     file = copy(w.bytes, w.count);
     dowringaf_data_object(file, w.count, 0, 2, 2, w.count, table, DOWRINGAF_ROW_WORDS, o);
     IS(o->refused, 0);
@@ -674,15 +690,11 @@ static void test_block(void)
     dowringaf_object *o = object_of_ones();
     size_t i;
 
-    w.count = 0;
-    put_text(&w, "OHDR");
-    put(&w, 2, 1);
-    put(&w, 0, 1);
-    put(&w, 8, 1);
+    begin_header(&w);
     entry(&w, 16, 4, 0);
     put(&w, 19, 2);
     put(&w, 16, 2);
-    put_sum(&w, 0);
+    end_header(&w);
     put_text(&w, "OCHK");
     entry(&w, 0, 0, 0);
     entry(&w, 255, 0, 0);
@@ -720,21 +732,6 @@ static void object_is(const uint8_t *bytes, size_t n, uint64_t position, int wid
     free(file);
     free(table);
     free(o);
-}
-
-/* A header at the file's beginning. Its entries follow, and what closes it. */
-static void begin_header(struct writer *w)
-{
-    w->count = 0;
-    put_text(w, "OHDR");
-    put(w, 2, 1);
-    put(w, 0, 2);
-}
-
-static void end_header(struct writer *w)
-{
-    w->bytes[6] = (uint8_t)(w->count - 7);
-    put_sum(w, 0);
 }
 
 /* What is read of a header with some messages, before their records. */
@@ -1386,7 +1383,7 @@ static void far_root_is(uint64_t root, int width, uint64_t refused)
     free(o);
 }
 
-/* In a width of 2 a root at 65535 is not read, although it is there; by hand its place is a number. */
+/* In a width of 2 a root at 65535 is not read, although it is there. By hand this is a number. */
 static void test_far_roots(void)
 {
     uint8_t *file = far_root(FAR, 2);
@@ -1560,7 +1557,7 @@ static int write_file(const char *path, const struct writer *w)
     return written;
 }
 
-/* Writes two files for another program to read: the full header, and it with undefined addresses. */
+/* Writes the full header, and the one with undefined addresses, for another program to read. */
 static int write_files(const char *full, const char *undefined)
 {
     struct writer w;
