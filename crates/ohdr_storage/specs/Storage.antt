@@ -52,12 +52,16 @@ contiguousPart address size = pick (eqb size 0) emptyPart (record { position = a
 unfoldable pub compact : Format DataLayout
 compact = number 2 (λ size. skip size (done {A = DataLayout} (record { address = optionAddresses.None; «data» = emptyPart })))
 
--- the raw data are bytes of the file where the address is a number between 0 and end-of-file
-unfoldable pub rawData : State → ℕ → Address → Format Part
-rawData s size addresses.Undefined = done emptyPart
-rawData s size (addresses.Number address) =
+-- the raw data are bytes of the file where the address lies between 0 and end-of-file
+unfoldable pub dataFrom : State → ℕ → ℕ → Format Part
+dataFrom s size address =
     pick (addressValid s address) (there address (bytes size nothing) (λ _. done (contiguousPart address size))) (
     done emptyPart)
+
+-- at the undefined address there are none
+unfoldable pub rawData : State → ℕ → Address → Format Part
+rawData s size addresses.Undefined = done emptyPart
+rawData s size (addresses.Number address) = dataFrom s size address
 
 -- contiguous storage
 unfoldable pub contiguous : State → Format DataLayout

@@ -24,7 +24,7 @@ ghost use lib.ListN.{take as takeList};
 ghost use Rattle.format.specs.Format.{read, times, bytes, nothing};
 ghost use Rattle.helpers.specs.Answers.{placeOut, takenOut};
 ghost use Rattle.parser.specs.States.{Widths};
-ghost use Rattle.ohdr_storage.specs.Storage.{fillOld, fill12, fill3, fill, compact, contiguous, contiguousPart, rawData, dataLayout, filter1, filter2, filterOf, reserved, filterPipeline};
+ghost use Rattle.ohdr_storage.specs.Storage.{fillOld, fill12, fill3, fill, compact, contiguous, contiguousPart, dataFrom, rawData, dataLayout, filter1, filter2, filterOf, reserved, filterPipeline};
 ghost use Rattle.ohdr_storage.specs.Answers.{partOut, layoutOut};
 
 // Data as bytes of the file, and the position after the fields that lead to them.
@@ -167,8 +167,26 @@ fn part_of(address: usize, size: usize) -> Part
     }
 }
 
-// The data from an address on; none where the address is undefined or lies outside the file. No
-// field is read.
+// The data from a number on, which is an address where it lies in the file; there are none elsewhere.
+fn data_from(file: &[u8], at: usize, state: State, address: u64, size: usize) -> PartRead
+    ensures { λ r. ⌜ partOut r ≡ read (now (file .entry)) (dataFrom state size address) at ⌝ }
+{
+    if !state.is_address_valid(address) {
+        return PartRead::Read(
+            Part {
+                position: 0,
+                length: 0,
+            },
+            at,
+        );
+    }
+    let Taken::At(_) = data_at(file, address as usize, size) else {
+        return PartRead::Refused(Refusal::Short);
+    };
+    PartRead::Read(part_of(address as usize, size), at)
+}
+
+// The data at an address; none at the undefined one. The position stays where it is.
 fn raw_data(file: &[u8], at: usize, state: State, address: Address, size: usize) -> PartRead
     ensures { λ r. ⌜ partOut r ≡ read (now (file .entry)) (rawData state size address) at ⌝ }
 {
@@ -176,16 +194,10 @@ fn raw_data(file: &[u8], at: usize, state: State, address: Address, size: usize)
         position: 0,
         length: 0,
     };
-    let Address::Number(address) = address else {
-        return PartRead::Read(none, at);
-    };
-    if !state.is_address_valid(address) {
-        return PartRead::Read(none, at);
+    match address {
+        Address::Undefined => PartRead::Read(none, at),
+        Address::Number(number) => data_from(file, at, state, number, size),
     }
-    let Taken::At(_) = data_at(file, address as usize, size) else {
-        return PartRead::Refused(Refusal::Short);
-    };
-    PartRead::Read(part_of(address as usize, size), at)
 }
 
 // Contiguous storage, after the class.

@@ -15,7 +15,7 @@ use Rattle.records.specs.declared.DataLayout.{DataLayout}
 use Rattle.records.specs.Defaults.{emptyPart}
 use Rattle.parser.specs.declared.State.{State}
 use Rattle.parser.specs.States.{addressValid}
-use Rattle.ohdr_storage.specs.Storage.{fillOld, fillValue, contiguousPart, compact, rawData, contiguous, dataLayout}
+use Rattle.ohdr_storage.specs.Storage.{fillOld, fillValue, contiguousPart, compact, dataFrom, rawData, contiguous, dataLayout}
 use Rattle.standard.specs.Tie.{Tied, tied-done, tied-number, tied-check, tied-only, tied-pick, tied-pick-left, tied-bind, tied-there-left, tied-refuse, tied-raw}
 use Rattle.standard.specs.Versions.{marked, tied-marked}
 use Rattle.standard_messages.specs.Addresses.{addressIn, address-tied}
@@ -93,7 +93,7 @@ module _ (s : State) (size : ℕ) where
       })
 
   raw-tied : (theirs : standard.Address) → Tied (SameContiguous s) (bind (rawData s size (addressIn theirs)) (λ part. done (layoutOf (addressIn theirs) part))) (done (storage theirs))
-  unfolding bind rawData
+  unfolding bind dataFrom rawData
   raw-tied standard.undefined =
       tied-done (record {
         address = refl;
