@@ -3,6 +3,7 @@
 
 use std::io::Write;
 
+use crate::address::{Address, OptionalAddress};
 use crate::input::Input;
 
 /// What a superblock hands out.
@@ -12,7 +13,7 @@ pub struct SuperBlock {
     pub size_of_lengths: u64,
     pub base_address: u64,
     /// Absent in versions 0 and 1.
-    pub superblock_extension_address: Option<u64>,
+    pub superblock_extension_address: Option<Address>,
     pub end_of_file_address: u64,
     pub root_group_object_header_address: u64,
 }
@@ -25,7 +26,9 @@ impl SuperBlock {
             self.size_of_offsets,
             self.size_of_lengths,
             self.base_address,
-            extension.map_or("-".into(), |address| address.to_string()),
+            extension.map_or("-,-".into(), |address| {
+                format!("{},{}", address.undefined, address.number)
+            }),
             self.end_of_file_address,
             self.root_group_object_header_address
         )
@@ -124,9 +127,9 @@ pub struct DataType {
 pub struct LinkInfo {
     pub flags: u64,
     pub maximum_creation_index: Optional,
-    pub fractal_heap_address: u64,
-    pub address_btree_index: u64,
-    pub address_btree_order: Optional,
+    pub fractal_heap_address: Address,
+    pub address_btree_index: Address,
+    pub address_btree_order: OptionalAddress,
 }
 
 #[repr(C)]
@@ -144,9 +147,9 @@ pub struct GroupInfo {
 pub struct AttributeInfo {
     pub flags: u64,
     pub maximum_creation_index: u64,
-    pub fractal_heap_address: u64,
-    pub attribute_name_btree: u64,
-    pub attribute_creation_order_btree: u64,
+    pub fractal_heap_address: Address,
+    pub attribute_name_btree: Address,
+    pub attribute_creation_order_btree: Address,
 }
 
 #[repr(C)]
@@ -157,6 +160,7 @@ pub struct Records {
     pub link_info: LinkInfo,
     pub group_info: GroupInfo,
     pub attribute_info: AttributeInfo,
+    pub layout_address: OptionalAddress,
 }
 
 #[derive(Clone, Debug, Default, PartialEq, Eq)]
@@ -192,6 +196,7 @@ impl Header {
         line(&mut out, "link_info", words(&records.link_info));
         line(&mut out, "group_info", words(&records.group_info));
         line(&mut out, "attribute_info", words(&records.attribute_info));
+        line(&mut out, "layout", words(&records.layout_address));
         out.extend(b"data");
         blob(&mut out, Some(&self.data));
         out.push(b'\n');

@@ -2,6 +2,8 @@
 
 use std::ops::Range;
 
+use crate::address::all_ones;
+
 /// Two widths, end-of-file address, header position.
 pub const LEAD: usize = 18;
 
@@ -41,6 +43,12 @@ impl Input {
     pub fn has_widths(&self) -> bool {
         let widths = 2..=8;
         widths.contains(&self.offset_width) && widths.contains(&self.length_width)
+    }
+
+    /// Whether end-of-file is above all ones of the width of offsets, so that to the Rust an undefined
+    /// address may lie in the file.
+    pub fn is_above_addresses(&self) -> bool {
+        self.has_widths() && self.end_of_file > all_ones(self.offset_width)
     }
 
     /// Where the header's chunk size stands, as its flags have it.

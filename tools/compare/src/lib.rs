@@ -4,6 +4,7 @@
 // `rust/copy.rs` is written once, and is a module over each copy of the Rust.
 #![allow(clippy::duplicate_mod)]
 
+pub mod address;
 pub mod answer;
 pub mod closing;
 pub mod generate;

@@ -2,6 +2,9 @@
 
 use std::borrow::Cow;
 
+use crate::address::{Place, Seen};
+use crate::input::get;
+
 pub const SIGNATURE: &[u8] = b"\x89HDF\r\n\x1a\n";
 /// Where the version of a superblock stands.
 pub const VERSION: usize = SIGNATURE.len();
@@ -22,6 +25,20 @@ pub fn address(number: usize, offset_width: u64) -> usize {
 /// Where a superblock of version 2 or 3 ends.
 pub fn end(offset_width: u64) -> usize {
     address(4, offset_width) + 4
+}
+
+/// The undefined addresses, and those one below, of a superblock of version 2 or 3, as far as they
+/// lie in the file. The base address is none of them.
+pub fn seen(file: &[u8], offset_width: u64) -> Vec<Seen> {
+    let places = [Place::Extension, Place::EndOfFile, Place::Root];
+    let field = |number: usize| {
+        let range = address(number, offset_width)..address(number + 1, offset_width);
+        file.get(range).map(get)
+    };
+    let fields = (1..).zip(places);
+    fields
+        .filter_map(|(number, place)| Seen::new(place, field(number)?, offset_width as u8))
+        .collect()
 }
 
 /// A file as the Rust is given it, since it does not read version 3: with version 2 in its place.

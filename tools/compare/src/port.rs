@@ -1,6 +1,7 @@
 //! The port behind two functions, one for a header by hand and one for a plain file, through the
 //! archive that dowringaf.h describes.
 
+use crate::address::Address;
 use crate::answer::{Header, Records, Row, SuperBlock, words};
 use crate::input::Input;
 
@@ -31,7 +32,7 @@ struct Block {
     size_of_offsets: u64,
     size_of_lengths: u64,
     base_address: u64,
-    superblock_extension_address: u64,
+    superblock_extension_address: Address,
     end_of_file_address: u64,
     root_group_object_header_address: u64,
 }
@@ -212,7 +213,7 @@ fn super_block(file: &[u8]) -> Result<SuperBlock, u64> {
         return Ok(answer);
     }
     let zeros = SuperBlock {
-        superblock_extension_address: Some(0),
+        superblock_extension_address: Some(Address::default()),
         ..SuperBlock::default()
     };
     assert_eq!(answer, zeros, "a refused superblock is zero");
@@ -220,11 +221,13 @@ fn super_block(file: &[u8]) -> Result<SuperBlock, u64> {
 }
 
 /// What was written, in the one form of both sides. The table's words after the last row must be
-/// zero.
+/// zero, and where it refuses all words of the object but the first.
 fn outcome(object: &Object, table: &[u64], file: &[u8]) -> Outcome {
     let unused = &table[object.rows as usize * ROW_WORDS..];
     assert!(unused.iter().all(|word| *word == 0), "unused rows are zero");
     if object.refused != 0 {
+        let refused = Written::refused(object.refused, 0).object;
+        assert_eq!(*object, refused, "a refused object is zero");
         return Outcome::Refused(object.refused);
     }
     Outcome::Read(Box::new(object.header(file, table)))

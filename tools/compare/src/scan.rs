@@ -2,13 +2,16 @@
 //! and the forms that the mended Rust reads otherwise than the published one.
 //!
 //! Outside are a type of more than 32 levels, and size times elements of 2^64 or more. The forms are
-//! members of version 1 compounds, and version 1 names above 8 bytes that are no multiple of 8.
+//! members of version 1 compounds, and version 1 names above 8 bytes that are no multiple of 8; and
+//! where end-of-file is above all ones of the width of offsets, undefined data addresses and
+//! continuation offsets.
 //!
 //! Every field that the mended Rust tests before that is tested here too, so that a header which is
 //! refused or an attribute that fails before it gets so far stays in the comparison, with both.
 
 use std::fmt;
 
+use crate::address::{self, Seen};
 use crate::input::{Input, get, padding};
 use crate::rust::Entry;
 
@@ -62,12 +65,17 @@ pub struct Found {
     pub forms: Vec<Form>,
     /// Of messages that are refused, and of attributes that fail.
     pub failed: Vec<Form>,
+    /// Undefined addresses, and those one below.
+    pub addresses: Vec<Seen>,
+    /// Whether the published Rust takes one of them for a place in the file.
+    pub is_followed: bool,
 }
 
 impl Found {
     /// Whether there is a form that the published Rust reads otherwise than the mended one.
     pub fn is_mended(&self) -> bool {
-        self.forms.iter().chain(&self.failed).any(Form::is_mended)
+        let mut forms = self.forms.iter().chain(&self.failed);
+        self.is_followed || forms.any(Form::is_mended)
     }
 }
 
@@ -101,7 +109,12 @@ impl fmt::Display for Form {
 
 /// What the messages show that the mended Rust began to read.
 pub fn header(input: &Input, entries: &[Entry]) -> Found {
-    let mut found = Found::default();
+    let addresses = address::seen(input, entries);
+    let mut found = Found {
+        is_followed: input.is_above_addresses() && addresses.iter().any(Seen::is_followed),
+        addresses,
+        ..Found::default()
+    };
     for entry in entries {
         let mut scan = Scan::new(input, entry.body);
         // A field that cannot be read ends the message, here as in its readers.

@@ -2,6 +2,7 @@
 
 use super::maker::Maker;
 use super::piece::{Piece, Place};
+use crate::address::all_ones;
 use crate::input::Input;
 
 /// Which blocks each chunk opens. Chunk 0 is the header's own, chunk n is block n.
@@ -84,10 +85,18 @@ impl Maker<'_> {
                 .random
                 .pick(&[0, 1, length.saturating_sub(1), some, some]);
         }
-        if self.random.rarely(150) {
-            return self
-                .random
-                .pick(&[length + 1, length + 100, 1 << 32, u64::MAX - 1, u64::MAX]);
+        if self.random.rarely(180) {
+            let ones = all_ones(self.offset_width);
+            return self.random.pick(&[
+                length + 1,
+                length + 100,
+                1 << 32,
+                u64::MAX - 1,
+                u64::MAX,
+                ones - 1,
+                ones,
+                ones.saturating_add(1),
+            ]);
         }
         length
     }
@@ -132,7 +141,7 @@ impl Maker<'_> {
     fn header(&mut self, plan: &Plan, flags: u64, held: Option<&Piece>) -> Piece {
         let chunk = self.chunk(plan, 0, flags, held);
         let width = 1_u8 << (flags & 3);
-        let room = Maker::all_ones(width);
+        let room = all_ones(width);
         let (width_bits, room) = if chunk.len() as u64 > room {
             (2, u64::MAX)
         } else {
@@ -224,7 +233,7 @@ impl Maker<'_> {
     fn continuation(&mut self, block: usize, orders: bool) -> Piece {
         let mut body = Piece::default();
         if self.fault() {
-            let address = self.any_number();
+            let address = self.any_address();
             body.put(address, self.offset_width);
         } else {
             let shift = self.choose(&[0], &[1, u64::MAX, 4]);

@@ -1,5 +1,6 @@
 //! What is common to the making of all messages: widths, random choices and faults.
 
+use crate::address::all_ones;
 use crate::random::Random;
 
 pub struct Maker<'r> {
@@ -75,6 +76,15 @@ impl<'r> Maker<'r> {
         self.random.pick(&[0, 1, u64::MAX, number, number, number])
     }
 
+    /// An address: often undefined, or a number that other ports may take for it.
+    pub fn any_address(&mut self) -> u64 {
+        let ones = all_ones(self.offset_width);
+        let by_lengths = all_ones(self.length_width);
+        let some = self.any_number();
+        self.random
+            .pick(&[ones, ones, ones - 1, by_lengths, some, some, some, some])
+    }
+
     /// Bytes that are zero now and then.
     pub fn bytes(&mut self, count: usize) -> Vec<u8> {
         let mut byte = || match self.random.below(4) {
@@ -120,10 +130,5 @@ impl<'r> Maker<'r> {
         for (byte, new) in text[at..].iter_mut().zip(piece) {
             *byte = *new;
         }
-    }
-
-    /// The largest number that a width writes.
-    pub fn all_ones(width: u8) -> u64 {
-        u64::MAX >> (64 - 8 * u32::from(width))
     }
 }

@@ -2,6 +2,7 @@
 
 use super::maker::Maker;
 use super::piece::{Piece, Place};
+use crate::address::all_ones;
 
 const OVERFULL: &[u64] = &[0xffff, 0x1_0000, 0x7fff_ffff, 0xffff_ffff];
 const CONTIGUOUS_LIMIT: u64 = 0x1000_0000;
@@ -61,11 +62,18 @@ impl Maker<'_> {
         }
     }
 
+    /// Two addresses, and by the flags a third.
+    fn addresses(&mut self, piece: &mut Piece, flags: u64) {
+        for _ in 0..2 + (flags >> 1 & 1) {
+            let address = self.any_address();
+            piece.put(address, self.offset_width);
+        }
+    }
+
     fn link_info(&mut self) -> Piece {
         let (mut piece, flags) = self.version_and_flags();
         self.numbers(&mut piece, (flags & 1) as u32, 8);
-        let addresses = 2 + u32::from(flags & 2 != 0);
-        self.numbers(&mut piece, addresses, self.offset_width);
+        self.addresses(&mut piece, flags);
         piece
     }
 
@@ -79,8 +87,7 @@ impl Maker<'_> {
     fn attribute_info(&mut self) -> Piece {
         let (mut piece, flags) = self.version_and_flags();
         self.numbers(&mut piece, (flags & 1) as u32, 2);
-        let addresses = 2 + u32::from(flags & 2 != 0);
-        self.numbers(&mut piece, addresses, self.offset_width);
+        self.addresses(&mut piece, flags);
         piece
     }
 
@@ -143,7 +150,7 @@ impl Maker<'_> {
 
     fn contiguous(&mut self, piece: &mut Piece) {
         let width = self.offset_width;
-        let largest = (CONTIGUOUS_LIMIT - 1).min(Maker::all_ones(self.length_width));
+        let largest = (CONTIGUOUS_LIMIT - 1).min(all_ones(self.length_width));
         let some = self.random.below(24);
         let nowhere = self.random.rarely(300);
         if nowhere {
@@ -164,12 +171,13 @@ impl Maker<'_> {
         piece.put(size, self.length_width);
     }
 
-    /// 0, at the end of the file or after it.
+    /// 0, undefined or one below it, at the end of the file or after it.
     fn address_without_data(&mut self, piece: &mut Piece) {
         let width = self.offset_width;
-        match self.random.below(5) {
+        match self.random.below(8) {
             0 | 1 => piece.put(0, width),
-            2 => piece.put(u64::MAX, width),
+            2 | 3 => piece.put(all_ones(width), width),
+            4 => piece.put(all_ones(width) - 1, width),
             _ => {
                 let shift = self.choose(&[0, 0, 1, 7], &[u64::MAX, u64::MAX - 1]);
                 piece.link(Place::End, shift, width);

@@ -3,6 +3,7 @@
 use super::maker::Maker;
 use super::sums::Sums;
 use super::{BATCH, damage};
+use crate::address::all_ones;
 use crate::closing::make_true;
 use crate::input::{Input, put};
 use crate::plain::SIGNATURE;
@@ -22,6 +23,8 @@ enum Fault {
     OffsetWidth,
     LengthWidth,
     Base,
+    EndOfFile,
+    Root,
 }
 
 /// Shows the plain files of a batch. `real` are real files, if any.
@@ -47,8 +50,10 @@ fn made(random: &mut Random) -> Vec<u8> {
         Fault::OffsetWidth,
         Fault::LengthWidth,
         Fault::Base,
+        Fault::EndOfFile,
+        Fault::Root,
     ];
-    let fault = if random.rarely(300) {
+    let fault = if random.rarely(400) {
         random.pick(FAULTS)
     } else {
         Fault::Nothing
@@ -109,12 +114,24 @@ impl Maker<'_> {
             position,
             ..
         } = self.input();
+        let strange = self.no_number();
+        let [end_of_file, position] = match fault {
+            Fault::EndOfFile => [strange, position],
+            Fault::Root => [end_of_file, strange],
+            _ => [end_of_file, position],
+        };
         front.set(front.end_of_file, end_of_file, self.offset_width);
         front.set(front.root, position, self.offset_width);
         // The file may have been cut inside of it.
         let kept = self.front.min(file.len());
         file[..kept].copy_from_slice(&front.bytes[..kept]);
         file
+    }
+
+    /// Undefined, or one below it.
+    fn no_number(&mut self) -> u64 {
+        let ones = all_ones(self.offset_width);
+        self.random.pick(&[ones, ones, ones - 1])
     }
 
     fn super_block_version(&mut self, fault: Fault) -> u8 {
@@ -132,8 +149,7 @@ impl Maker<'_> {
         let any = self.random.byte();
         bytes.push(self.random.pick(&[0, 0, 1, 4, 5, any]));
         self.base(&mut bytes, fault);
-        let some = self.any_number();
-        let extension = self.random.pick(&[u64::MAX, u64::MAX, some]);
+        let extension = self.any_address();
         put(&mut bytes, extension, self.offset_width);
         let end_of_file = bytes.len();
         put(&mut bytes, 0, self.offset_width);

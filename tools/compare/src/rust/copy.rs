@@ -10,13 +10,17 @@ use super::hdf::data_object::{self, DataFormat, DataObject, DataObjectFlags};
 use super::hdf::ohdr_message::{HeaderMessage, HeaderMessageKind, collect_all_messages};
 use super::hdf::parser::{Input as Stream, State, parse};
 use super::hdf::super_block::{SuperBlock, super_block};
+use crate::address::{self, Address};
 use crate::answer::{self, Dimensions, Format, Header, Records, Row};
 use crate::input::Input;
 use crate::rust::{Answer, CONTINUATION, Entry, answer_of, silence};
 
 /// The Rust's answer. The thread needs a stack of `STACK` bytes.
 pub fn rust_answer(input: &Input) -> Answer {
-    answer_of(|| header(input), Reading::header)
+    answer_of(
+        || header(input),
+        |reading, entries| reading.header(input, entries),
+    )
 }
 
 /// The Rust's answer without what it reads: an accepted header is empty.
@@ -44,11 +48,13 @@ pub fn rust_data_object(input: &Input) -> Option<(usize, usize)> {
 pub fn rust_super_block(file: &[u8]) -> Option<answer::SuperBlock> {
     let mut rest = file;
     let block = super_block(&mut rest).ok()?;
+    let extension = block.superblock_extension_address;
     Some(answer::SuperBlock {
         size_of_offsets: block.size_of_offsets.into(),
         size_of_lengths: block.size_of_lengths.into(),
         base_address: block.base_address,
-        superblock_extension_address: block.superblock_extension_address,
+        superblock_extension_address: extension
+            .map(|number| Address::read(number, block.size_of_offsets)),
         end_of_file_address: block.end_of_file_address,
         root_group_object_header_address: block.root_group_object_header_address,
     })
@@ -114,11 +120,12 @@ fn messages(input: &Input, flags: DataObjectFlags, next: usize) -> Vec<HeaderMes
 // The one form of both sides.
 
 impl Reading {
-    fn header(self, entries: &[Entry]) -> Header {
+    fn header(self, input: &Input, entries: &[Entry]) -> Header {
         let with_rows = entries.iter().filter(|entry| entry.kind != CONTINUATION);
         let rows: Vec<Row> = self.messages.iter().zip(with_rows).map(row).collect();
         assert_eq!(rows.len(), self.messages.len(), "a line for each message");
         let object = self.object;
+        let width = input.offset_width;
         Header {
             next: self.next as u64,
             entries: entries.len() as u64,
@@ -126,9 +133,10 @@ impl Reading {
             records: Records {
                 data_space: data_space(&object.ds),
                 data_type: data_type(&object.dt),
-                link_info: link_info(&object.li),
+                link_info: link_info(&object.li, width),
                 group_info: group_info(&object.gi),
-                attribute_info: attribute_info(&object.ai),
+                attribute_info: attribute_info(&object.ai, width),
+                layout_address: address::of_layout(input, entries),
             },
             data: object.data,
         }
@@ -219,13 +227,14 @@ fn format(format: Option<DataFormat>) -> Format {
     }
 }
 
-fn link_info(li: &data_object::LinkInfo) -> answer::LinkInfo {
+fn link_info(li: &data_object::LinkInfo, width: u8) -> answer::LinkInfo {
+    let address = |number| Address::read(number, width);
     answer::LinkInfo {
         flags: li.flags.into(),
         maximum_creation_index: li.maximum_creation_index.into(),
-        fractal_heap_address: li.fractal_heap_address,
-        address_btree_index: li.address_btree_index,
-        address_btree_order: li.address_btree_order.into(),
+        fractal_heap_address: address(li.fractal_heap_address),
+        address_btree_index: address(li.address_btree_index),
+        address_btree_order: li.address_btree_order.map(address).into(),
     }
 }
 
@@ -239,12 +248,13 @@ fn group_info(gi: &data_object::GroupInfo) -> answer::GroupInfo {
     }
 }
 
-fn attribute_info(ai: &data_object::AttributeInfo) -> answer::AttributeInfo {
+fn attribute_info(ai: &data_object::AttributeInfo, width: u8) -> answer::AttributeInfo {
+    let address = |number| Address::read(number, width);
     answer::AttributeInfo {
         flags: ai.flags.into(),
         maximum_creation_index: ai.maximum_creation_index,
-        fractal_heap_address: ai.fractal_heap_address,
-        attribute_name_btree: ai.attribute_name_btree,
-        attribute_creation_order_btree: ai.attribute_creation_order_btree,
+        fractal_heap_address: address(ai.fractal_heap_address),
+        attribute_name_btree: address(ai.attribute_name_btree),
+        attribute_creation_order_btree: address(ai.attribute_creation_order_btree),
     }
 }

@@ -3,7 +3,8 @@
 //! `data_object` gives the records and the end; `collect_all_messages` over the same header gives
 //! the messages, which `data_object` does not hand back. Neither tells the types, the positions of
 //! bodies and the entries read: those come from the line that the Rust logs for each entry. That a
-//! block is closed comes from the line that it logs when it comes back from it.
+//! block is closed comes from the line that it logs when it comes back from it. A layout's address
+//! neither tells nor logs: the tool reads it itself.
 
 pub mod mended;
 pub mod published;

@@ -1,11 +1,13 @@
 //! Wrong ports: each changes one thing in the port's answer, where it is there. The comparison must
 //! find every one of them.
 
+use sides::address::OptionalAddress;
 use sides::answer::{Format, Header, Optional, Row};
 use sides::input::Input;
 use sides::port::{Outcome, PlainAnswer};
 use sides::rust::{self, published};
 
+use crate::address_breakage::{ADDRESSES, PLAIN_ADDRESSES};
 use crate::plain_breakage::PLAIN;
 use crate::sum_breakage::SUMS;
 
@@ -30,7 +32,7 @@ const fn breakage(name: &'static str, change: fn(Outcome) -> Outcome) -> Breakag
     }
 }
 
-pub const HEADER: &[Breakage] = &[
+const HEADER: &[Breakage] = &[
     breakage("next", |o| header(o, |h| h.next += 1)),
     breakage("entries", |o| header(o, |h| h.entries += 1)),
     breakage("entries-of-many-blocks", |o| header(o, few_blocks)),
@@ -65,7 +67,9 @@ pub const HEADER: &[Breakage] = &[
     breakage("list-format", |o| header(o, list_format)),
     breakage("bias", |o| header(o, bias)),
     breakage("link-order", |o| {
-        header(o, |h| h.records.link_info.address_btree_order = absent())
+        header(o, |h| {
+            h.records.link_info.address_btree_order = OptionalAddress::default()
+        })
     }),
     breakage("link-index", |o| header(o, link_index)),
     breakage("group-length", |o| {
@@ -92,8 +96,18 @@ pub const HEADER: &[Breakage] = &[
     },
 ];
 
+/// All that are of headers.
+pub fn of_headers() -> impl Iterator<Item = &'static Breakage> {
+    HEADER.iter().chain(SUMS).chain(ADDRESSES)
+}
+
+/// All that are of plain files.
+pub fn of_plain() -> impl Iterator<Item = &'static Breakage> {
+    PLAIN.iter().chain(PLAIN_ADDRESSES)
+}
+
 pub fn named(name: &str) -> Result<&'static Breakage, String> {
-    let all = || HEADER.iter().chain(SUMS).chain(PLAIN);
+    let all = || of_headers().chain(of_plain());
     let names = || all().map(|b| b.name).collect::<Vec<_>>().join(", ");
     let found = all().find(|breakage| breakage.name == name);
     found.ok_or_else(|| format!("{name} is none of {}", names()))
@@ -116,7 +130,7 @@ impl Breakage {
 }
 
 /// Changes an accepted header.
-fn header(outcome: Outcome, change: fn(&mut Header)) -> Outcome {
+pub fn header(outcome: Outcome, change: impl Fn(&mut Header)) -> Outcome {
     match outcome {
         Outcome::Read(mut header) => {
             change(&mut header);

@@ -2,11 +2,12 @@
 
 use std::collections::{BTreeMap, BTreeSet};
 
+use sides::address::{Case, Place, Seen};
 use sides::answer::Header;
 use sides::scan::Form;
 use sides::sum::{Closing, Of};
 
-use crate::judge::{Exclusion, FalseSum, Judged, Untested, Verdict};
+use crate::judge::{Exclusion, FalseSum, Judged, OF_CONTINUATION, Untested, Verdict};
 
 /// The message types with fields, by name; the rest are skipped by their size.
 const TYPES: &[(u64, &str)] = &[
@@ -69,6 +70,44 @@ impl Sum for Beside {
     }
 }
 
+/// Undefined addresses, and those one below: how many inputs have one at a place, by width.
+#[derive(Default)]
+pub struct Addresses {
+    counts: BTreeMap<(Place, Case), BTreeMap<u8, u64>>,
+}
+
+impl Addresses {
+    /// Counts those of an input, each once.
+    pub fn count(&mut self, seen: impl IntoIterator<Item = Seen>) {
+        for seen in seen.into_iter().collect::<BTreeSet<Seen>>() {
+            let widths = self.counts.entry((seen.place, seen.case)).or_default();
+            count(widths, seen.width);
+        }
+    }
+
+    /// Prints the counts of inputs that have a name, those of the seven widths behind each.
+    pub fn print(&self, name: &str) {
+        for ((place, case), widths) in &self.counts {
+            let all: u64 = widths.values().sum();
+            let each = (2..=8).map(|width| widths.get(&width).copied().unwrap_or(0));
+            let each: Vec<String> = each.map(|count| count.to_string()).collect();
+            println!(
+                "{name} with a {} {case} {all}, by widths {}",
+                place.text(),
+                each.join(" ")
+            );
+        }
+    }
+}
+
+impl Sum for Addresses {
+    fn add(&mut self, other: Addresses) {
+        for (key, widths) in other.counts {
+            add_all(self.counts.entry(key).or_default(), widths);
+        }
+    }
+}
+
 /// Of headers.
 #[derive(Default)]
 pub struct Counts {
@@ -79,6 +118,14 @@ pub struct Counts {
     sums: u64,
     false_sums: BTreeMap<FalseSum, u64>,
     outside: BTreeMap<Exclusion, u64>,
+    /// Headers with an end-of-file address that leaves them outside, and an undefined address that
+    /// the published Rust takes for a place in the file; and those of them that it answers otherwise.
+    followed: u64,
+    followed_otherwise: u64,
+    /// Headers that are refused with the number that an undefined address asks for.
+    demanded: BTreeMap<u64, u64>,
+    accepted_addresses: Addresses,
+    refused_addresses: Addresses,
     pub panicked: u64,
     pub differing: u64,
     pub beside: Beside,
@@ -107,14 +154,36 @@ impl Counts {
         match &judged.verdict {
             Verdict::Accepted(header) => {
                 self.count_header(header, &judged.found.forms);
+                self.accepted_addresses
+                    .count(judged.found.addresses.iter().copied());
                 self.overrun += u64::from(is_overrun(header, &judged.closings));
                 self.covered += u64::from(is_covered(&judged.closings));
             }
-            Verdict::Refused(number) => count(&mut self.refused, *number),
+            Verdict::Refused(number) => self.count_refused(*number, judged),
             Verdict::FalseSum(sum) => count(&mut self.false_sums, *sum),
-            Verdict::Outside(why) => count(&mut self.outside, *why),
+            Verdict::Outside(why) => self.count_outside(*why, judged),
             Verdict::Panicked(..) => self.panicked += 1,
             Verdict::Differs(..) => self.differing += 1,
+        }
+    }
+
+    fn count_refused(&mut self, number: u64, judged: &Judged) {
+        count(&mut self.refused, number);
+        if judged.demanded.is_some() {
+            count(&mut self.demanded, number);
+        }
+        let offset = judged.found.addresses.last().copied();
+        let refusing = |seen: &Seen| {
+            number == OF_CONTINUATION && seen.place == Place::Continuation
+        };
+        self.refused_addresses.count(offset.filter(refusing));
+    }
+
+    fn count_outside(&mut self, why: Exclusion, judged: &Judged) {
+        count(&mut self.outside, why);
+        if why == Exclusion::EndOfFile && judged.found.is_followed {
+            self.followed += 1;
+            self.followed_otherwise += u64::from(judged.otherwise.is_some());
         }
     }
 
@@ -158,7 +227,23 @@ impl Counts {
         for (why, count) in &self.outside {
             println!("  {}: {count}", why.text());
         }
+        if self.followed > 0 {
+            println!(
+                "{name}with an undefined address below such an end-of-file address {}, {} of them answered otherwise by the published Rust",
+                self.followed, self.followed_otherwise
+            );
+        }
         self.beside.print(name);
+    }
+
+    /// Prints the undefined addresses of headers that have a name.
+    pub fn print_addresses(&self, name: &str) {
+        self.accepted_addresses.print(&format!("{name}accepted"));
+        self.refused_addresses
+            .print(&format!("{name}refused with {OF_CONTINUATION}"));
+        for (number, count) in &self.demanded {
+            println!("{name}refused with {number}, as an undefined address asks for {count}");
+        }
     }
 }
 
@@ -177,6 +262,11 @@ impl Sum for Counts {
         add_all(&mut self.refused, other.refused);
         add_all(&mut self.false_sums, other.false_sums);
         add_all(&mut self.outside, other.outside);
+        self.followed += other.followed;
+        self.followed_otherwise += other.followed_otherwise;
+        add_all(&mut self.demanded, other.demanded);
+        self.accepted_addresses.add(other.accepted_addresses);
+        self.refused_addresses.add(other.refused_addresses);
         add_all(&mut self.types, other.types);
         add_all(&mut self.forms, other.forms);
         self.beside.add(other.beside);
@@ -269,6 +359,9 @@ impl Exclusion {
             Exclusion::Number(number) => format!("the port answers {number}"),
             Exclusion::TypeLevel => "a type level above 32 in an attribute".into(),
             Exclusion::Elements => "size x elements of 2^64 or more in an attribute".into(),
+            Exclusion::EndOfFile => {
+                "an end-of-file address above all ones of the width of offsets".into()
+            }
         }
     }
 }

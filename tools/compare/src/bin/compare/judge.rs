@@ -3,10 +3,15 @@
 //! The port is compared with the mended Rust. Where no form is found that the published Rust reads
 //! otherwise, the two Rusts must answer alike, so that the port is compared with both. No Rust tests
 //! a sum: where a stored value is reached that is none, the port must answer 28, and nowhere else.
+//!
+//! An end-of-file address above all ones of the width of offsets stands outside the comparison, since
+//! the published Rust then takes undefined addresses for places in the file. The mended one does not,
+//! and the port must answer as it does there too, or it is a disagreement.
 
+use sides::address::{LAYOUT, Place, all_ones, numbers};
 use sides::answer::{Header, REFUSED};
 use sides::closing::{first_false, reached};
-use sides::input::Input;
+use sides::input::{Input, get};
 use sides::port::{self, PlainAnswer, Port};
 use sides::rust::{self, Entry, mended, published};
 use sides::scan::{self, Found, Outside};
@@ -14,9 +19,13 @@ use sides::sum::{Closing, Of};
 
 use crate::breakage::Breakage;
 
-const LAYOUT: u8 = 8;
 /// The port's number for a false sum.
 pub const CHECKSUM: u64 = 28;
+/// The port's numbers for a layout and for a continuation.
+pub const OF_LAYOUT: u64 = 13;
+pub const OF_CONTINUATION: u64 = 19;
+/// The first size that data of a layout may not have.
+const DATA_LIMIT: u64 = 0x1000_0000;
 
 /// Why an input is outside the comparison.
 #[derive(Clone, Copy, Debug, PartialEq, Eq, PartialOrd, Ord)]
@@ -25,6 +34,8 @@ pub enum Exclusion {
     Number(u64),
     TypeLevel,
     Elements,
+    /// End-of-file is above all ones of the width of offsets.
+    EndOfFile,
 }
 
 /// A false sum: what it closes, and what the mended Rust, which does not test it, says of the input.
@@ -59,6 +70,8 @@ pub struct Judged {
     /// The closings that were reached, in their order.
     pub closings: Vec<Closing>,
     pub found: Found,
+    /// The number that an undefined address asks for.
+    pub demanded: Option<u64>,
     /// The published Rust's answer, where it is not the mended one's.
     pub otherwise: Option<rust::Outcome>,
 }
@@ -117,6 +130,7 @@ fn unasked(port: &port::Outcome) -> Judged {
         verdict,
         closings: Vec::new(),
         found: Found::default(),
+        demanded: None,
         otherwise: None,
     }
 }
@@ -125,17 +139,37 @@ fn unasked(port: &port::Outcome) -> Judged {
 pub fn against_rust(input: &Input, port: port::Outcome) -> Judged {
     let mended = mended::rust_answer(input);
     let closings = reached(input, &mended);
+    let refuses = matches!(mended.outcome, rust::Outcome::Refused);
+    let last = mended.entries.last().filter(|_| refuses);
     let answers = Answers {
         input,
         port,
         published: published::rust_answer(input).outcome,
         found: scan::header(input, &mended.entries),
+        demanded: last.and_then(|last| demanded(input, last)),
         false_sum: first_false(&closings, &input.file),
         closings,
         mended: mended.outcome,
         entries: mended.entries,
     };
     answers.judged()
+}
+
+/// The number that the port has to give where the last entry that a Rust began, before it refused,
+/// has an undefined address: 19 for a continuation's offset, whether or not its length is there, and
+/// 13 for a layout whose size is too large.
+pub fn demanded(input: &Input, last: &Entry) -> Option<u64> {
+    let (place, number) = numbers(input, last).next()?;
+    if number != all_ones(input.offset_width) {
+        return None;
+    }
+    let size = last.body + 2 + usize::from(input.offset_width);
+    let field = size..size + usize::from(input.length_width);
+    match place {
+        Place::Continuation => Some(OF_CONTINUATION),
+        Place::Layout if get(input.file.get(field)?) >= DATA_LIMIT => Some(OF_LAYOUT),
+        _ => None,
+    }
 }
 
 /// All that is said of an input, with the entries that the mended Rust read and what they show, and
@@ -147,6 +181,7 @@ struct Answers<'a> {
     mended: rust::Outcome,
     entries: Vec<Entry>,
     found: Found,
+    demanded: Option<u64>,
     closings: Vec<Closing>,
     false_sum: Option<Closing>,
 }
@@ -157,6 +192,7 @@ impl Answers<'_> {
             verdict: self.verdict(),
             closings: self.closings,
             found: self.found,
+            demanded: self.demanded,
             otherwise: (self.published != self.mended).then_some(self.published),
         }
     }
@@ -174,10 +210,18 @@ impl Answers<'_> {
         let before =
             (seen < self.entries.len()).then(|| scan::header(self.input, &self.entries[..seen]));
         let found = before.as_ref().unwrap_or(&self.found);
-        match found.outside {
+        let verdict = match found.outside {
             Some(Outside::TypeLevel) => Verdict::Outside(Exclusion::TypeLevel),
             Some(Outside::Elements) => Verdict::Outside(Exclusion::Elements),
             None => self.compared(&self.entries[..seen], found),
+        };
+        match verdict {
+            Verdict::Accepted(_) | Verdict::Refused(_) | Verdict::FalseSum(_)
+                if self.input.is_above_addresses() =>
+            {
+                Verdict::Outside(Exclusion::EndOfFile)
+            }
+            other => other,
         }
     }
 
@@ -200,7 +244,9 @@ impl Answers<'_> {
             {
                 Verdict::Accepted(ours.clone())
             }
-            (port::Outcome::Refused(number), rust::Outcome::Refused, None) => {
+            (port::Outcome::Refused(number), rust::Outcome::Refused, None)
+                if self.demanded.is_none_or(|demanded| demanded == *number) =>
+            {
                 Verdict::Refused(*number)
             }
             _ => Verdict::Differs(self.text()),
@@ -226,6 +272,9 @@ impl Answers<'_> {
         text += &format!("mended Rust:\n{}", rust_text(&self.mended));
         if self.published != self.mended {
             text += &published_text(&self.published);
+        }
+        if let Some(number) = self.demanded {
+            text += &format!("an undefined address asks for {number}\n");
         }
         text + &sums_text(&self.closings, &self.input.file)
     }

@@ -1,6 +1,7 @@
 //! Compares the port with the Rust that it was ported from, on inputs from a seed and on real files
 //! with their headers.
 
+mod address_breakage;
 mod arguments;
 mod breakage;
 mod counts;

@@ -1,6 +1,7 @@
 //! Wrong ports for plain files: each changes one thing in the superblock, or in what the root
 //! operation wrote.
 
+use sides::address::{Address, all_ones};
 use sides::answer::SuperBlock;
 use sides::closing::super_block;
 use sides::plain::{as_version_2, version};
@@ -25,12 +26,11 @@ pub const PLAIN: &[Breakage] = &[
     breakage("length-width", |_, a| block(a, |b| b.size_of_lengths += 1)),
     breakage("widths-swapped", |_, a| block(a, swap_widths)),
     breakage("base", |_, a| block(a, |b| b.base_address += 1)),
-    breakage("extension", |_, a| block(a, |b| extension(b, |x| x ^ 1))),
+    breakage("extension", |_, a| {
+        block(a, |b| extension(b, |x| x.number ^= 1))
+    }),
     breakage("extension-dropped", |_, a| {
         block(a, |b| b.superblock_extension_address = None)
-    }),
-    breakage("extension-of-all-ones", |_, a| {
-        block(a, |b| extension(b, widen))
     }),
     breakage("extension-and-end-swapped", |_, a| block(a, swap_extension)),
     breakage("end-of-file", |_, a| {
@@ -94,13 +94,13 @@ pub const PLAIN: &[Breakage] = &[
 ];
 
 /// Changes a superblock that is read.
-fn block(answer: &mut PlainAnswer, change: fn(&mut SuperBlock)) {
+pub fn block(answer: &mut PlainAnswer, change: fn(&mut SuperBlock)) {
     if let Ok(block) = &mut answer.super_block {
         change(block);
     }
 }
 
-fn refuse(answer: &mut PlainAnswer, number: u64) {
+pub fn refuse(answer: &mut PlainAnswer, number: u64) {
     if answer.super_block.is_ok() {
         answer.super_block = Err(number);
     }
@@ -134,14 +134,10 @@ fn version_3_refused(file: &[u8], answer: &mut PlainAnswer) {
     }
 }
 
-fn extension(block: &mut SuperBlock, change: fn(u64) -> u64) {
-    block.superblock_extension_address = block.superblock_extension_address.map(change);
-}
-
-/// All ones of any width as all ones of 8 bytes.
-fn widen(address: u64) -> u64 {
-    let all_ones = address != 0 && address.trailing_ones() == 64 - address.leading_zeros();
-    if all_ones { u64::MAX } else { address }
+pub fn extension(block: &mut SuperBlock, change: impl Fn(&mut Address)) {
+    if let Some(address) = &mut block.superblock_extension_address {
+        change(address);
+    }
 }
 
 fn swap_widths(block: &mut SuperBlock) {
@@ -150,8 +146,17 @@ fn swap_widths(block: &mut SuperBlock) {
 
 fn swap_extension(block: &mut SuperBlock) {
     let end = block.end_of_file_address;
-    block.end_of_file_address = block.superblock_extension_address.unwrap_or(0);
-    block.superblock_extension_address = Some(end);
+    let number = |address: Address| match address.undefined {
+        0 => address.number,
+        _ => all_ones(block.size_of_offsets as u8),
+    };
+    block.end_of_file_address = block.superblock_extension_address.map_or(0, number);
+    extension(block, |address| {
+        *address = Address {
+            undefined: 0,
+            number: end,
+        }
+    });
 }
 
 fn swap_root(block: &mut SuperBlock) {

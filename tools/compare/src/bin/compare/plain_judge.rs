@@ -1,9 +1,14 @@
 //! One plain file: the superblock and the root header of both sides, and what the comparison says
 //! of them.
+//!
+//! To the Rust an undefined end-of-file or root address is a number. The port must refuse it with 3,
+//! whatever stands behind it.
 
+use sides::address::{Place, Seen};
 use sides::answer::SuperBlock;
 use sides::closing::{self, Summed};
-use sides::plain::{VERSION, as_version_2, end, version};
+use sides::input::get;
+use sides::plain::{VERSION, address, as_version_2, end, seen, version};
 use sides::port::Written;
 use sides::rust::mended;
 use sides::rust::published::{rust_answer, rust_parses, rust_super_block};
@@ -13,6 +18,19 @@ use crate::judge::{
 };
 
 const LARGEST_FILE: usize = 1 << 31;
+const WIDEST: u64 = 8;
+/// The port's numbers for a field that cannot be, and for a base address.
+const SHORT: u64 = 3;
+const BASE: u64 = 27;
+
+/// The sum behind an undefined address.
+#[derive(Clone, Copy, Debug, PartialEq, Eq, PartialOrd, Ord)]
+pub enum Behind {
+    True,
+    False,
+    /// Some of its bytes, or of the root address, are not there.
+    Missing,
+}
 
 /// Why a superblock is outside the comparison.
 #[derive(Clone, Copy, Debug, PartialEq, Eq, PartialOrd, Ord)]
@@ -25,13 +43,16 @@ pub enum PlainExclusion {
 }
 
 pub enum PlainVerdict {
-    /// Both read the same superblock, of this version; the rest is of the root header.
-    Read(u8, Judged),
+    /// Both read the same superblock, of this version and with these addresses; the rest is of the
+    /// root header.
+    Read(u8, Vec<Seen>, Judged),
     /// Both refuse the superblock, the port with this number.
     Refused(u64),
     /// The Rust reads the superblock, of this version, and its sum is false: the port refuses it with
     /// 28, as it must.
     FalseSum(u8),
+    /// Its end-of-file or root address is undefined, and the port refuses it with 3, as it must.
+    Undefined(Seen, Behind),
     Outside(PlainExclusion),
     /// With what both say.
     Differs(String),
@@ -40,15 +61,33 @@ pub enum PlainVerdict {
 impl PlainVerdict {
     pub fn differs(&self) -> bool {
         match self {
-            PlainVerdict::Read(_, root) => matches!(root.verdict, Verdict::Differs(_)),
+            PlainVerdict::Read(.., root) => matches!(root.verdict, Verdict::Differs(_)),
             other => matches!(other, PlainVerdict::Differs(_)),
         }
     }
 
     pub fn panicked(&self) -> bool {
         match self {
-            PlainVerdict::Read(_, root) => matches!(root.verdict, Verdict::Panicked(_)),
+            PlainVerdict::Read(.., root) => matches!(root.verdict, Verdict::Panicked(_)),
             _ => false,
+        }
+    }
+}
+
+impl Behind {
+    fn new(file: &[u8]) -> Behind {
+        match closing::super_block(file) {
+            None => Behind::Missing,
+            Some(closing) if closing.holds(file) => Behind::True,
+            Some(_) => Behind::False,
+        }
+    }
+
+    pub fn text(self) -> &'static str {
+        match self {
+            Behind::True => "a true sum behind it",
+            Behind::False => "a false sum behind it",
+            Behind::Missing => "fields missing behind it",
         }
     }
 }
@@ -77,11 +116,15 @@ impl Judge {
         if version(file) == Some(3) && rust_super_block(file).is_some() {
             return differ(&block_text(ours), "it reads version 3\n");
         }
+        if let Some(address) = undefined_address(file) {
+            return undefined(file, ours, address);
+        }
         match (ours, rust_super_block(&as_version_2(file))) {
             (Ok(block), Some(theirs)) if *block == theirs && due(file) => {
                 let input = block.input(file);
                 let root = self.broken(&input, answer.root.outcome(file));
-                PlainVerdict::Read(file[VERSION], against_rust(&input, root))
+                let addresses = seen(file, block.size_of_offsets);
+                PlainVerdict::Read(file[VERSION], addresses, against_rust(&input, root))
             }
             (Ok(block), Some(theirs)) if *block == theirs => {
                 differ(&block_text(ours), "the port has to refuse it\n")
@@ -113,6 +156,47 @@ fn unlike_by_hand(root: &Written, by_hand: &Written) -> PlainVerdict {
     )
 }
 
+/// The verdict on a superblock with an undefined address that the port has to refuse.
+fn undefined(file: &[u8], ours: &Result<SuperBlock, u64>, address: Seen) -> PlainVerdict {
+    match ours {
+        Err(SHORT) => PlainVerdict::Undefined(address, Behind::new(file)),
+        _ => differ(
+            &block_text(ours),
+            &format!("an undefined {} asks for {SHORT}\n", address.place.text()),
+        ),
+    }
+}
+
+/// An undefined end-of-file or root address of a superblock of version 2 or 3 that is right up to
+/// there, as the Rust has it. What stands behind the address may be missing.
+fn undefined_address(file: &[u8]) -> Option<Seen> {
+    let block = rust_super_block(&filled(file)?)?;
+    let refuses = |seen: &Seen| seen.is_undefined() && seen.place != Place::Extension;
+    seen(file, block.size_of_offsets).into_iter().find(refuses)
+}
+
+/// Whether a superblock of version 2 or 3 that is right up to there has a base address that is not 0.
+fn has_base(file: &[u8]) -> bool {
+    let Some(mut bytes) = filled(file) else {
+        return false;
+    };
+    let width = u64::from(bytes[VERSION + 1]).min(WIDEST);
+    let field = address(0, width)..address(1, width);
+    let base = file.get(field.clone()).map_or(0, get);
+    bytes[field].fill(0);
+    base != 0 && rust_super_block(&bytes).is_some()
+}
+
+/// The first bytes of a file with a superblock of version 2 or 3 as the Rust is given them, with
+/// zeros for those that are missing.
+fn filled(file: &[u8]) -> Option<Vec<u8>> {
+    let longest = end(WIDEST);
+    let given = &file[..file.len().min(longest)];
+    let mut bytes = as_version_2(given).into_owned();
+    bytes.resize(longest, 0);
+    matches!(version(file), Some(2 | 3)).then_some(bytes)
+}
+
 /// Whether the port has to read a superblock that the Rust reads.
 fn due(file: &[u8]) -> bool {
     closing::super_block(file).is_some_and(|closing| closing.holds(file))
@@ -132,10 +216,10 @@ fn refused(file: &[u8], number: u64, theirs: Option<SuperBlock>) -> PlainVerdict
         (CHECKSUM, _) if has_false_sum(file) => PlainVerdict::FalseSum(file[VERSION]),
         (CHECKSUM, theirs) => blocks_differ(&Err(number), theirs),
         (26, Some(_)) if early => PlainVerdict::Outside(PlainExclusion::EarlyVersion),
-        (3, Some(block)) if !early && file.len() < end(block.size_of_offsets) => {
+        (SHORT, Some(block)) if !early && file.len() < end(block.size_of_offsets) => {
             PlainVerdict::Outside(PlainExclusion::NoChecksum)
         }
-        (_, None) => PlainVerdict::Refused(number),
+        (_, None) if number == BASE || !has_base(file) => PlainVerdict::Refused(number),
         (_, theirs) => blocks_differ(&Err(number), theirs),
     }
 }

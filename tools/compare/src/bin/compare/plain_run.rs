@@ -4,14 +4,15 @@ use std::collections::BTreeMap;
 use std::io::{self, Read};
 use std::time::Instant;
 
+use sides::address::Place;
 use sides::generate::plain::plain_batch;
 use sides::input::digits;
 use sides::real;
 
 use crate::arguments::Arguments;
-use crate::counts::{Beside, Counts, Sum, add_all, count, print_refused};
+use crate::counts::{Addresses, Beside, Counts, Sum, add_all, count, print_refused};
 use crate::judge::{Judge, Verdict};
-use crate::plain_judge::{PlainExclusion, PlainVerdict, plain_text};
+use crate::plain_judge::{Behind, PlainExclusion, PlainVerdict, plain_text};
 use crate::run::{keep, over_threads, print_answers, print_speed};
 use crate::shrink::shrink_plain;
 
@@ -23,6 +24,10 @@ struct Plain {
     refused: BTreeMap<u64, u64>,
     /// Superblocks with a false sum, by version.
     false_sums: BTreeMap<u8, u64>,
+    /// Superblocks with an undefined address that the port has to refuse.
+    undefined: BTreeMap<(Place, Behind), u64>,
+    read_addresses: Addresses,
+    refused_addresses: Addresses,
     outside: BTreeMap<PlainExclusion, u64>,
     differing: u64,
     /// The root headers behind superblocks that port and Rust read.
@@ -35,12 +40,17 @@ impl Plain {
     fn count(&mut self, file: &[u8], verdict: &PlainVerdict) {
         self.files += 1;
         match verdict {
-            PlainVerdict::Read(version, root) => {
+            PlainVerdict::Read(version, addresses, root) => {
                 count(&mut self.read, *version);
+                self.read_addresses.count(addresses.iter().copied());
                 self.roots.count(root);
             }
             PlainVerdict::Refused(number) => count(&mut self.refused, *number),
             PlainVerdict::FalseSum(version) => count(&mut self.false_sums, *version),
+            PlainVerdict::Undefined(address, behind) => {
+                count(&mut self.undefined, (address.place, *behind));
+                self.refused_addresses.count([*address]);
+            }
             PlainVerdict::Outside(why) => count(&mut self.outside, *why),
             PlainVerdict::Differs(..) => self.differing += 1,
         }
@@ -66,6 +76,7 @@ impl Plain {
             "superblocks with a false sum, which the Rust reads and the port refuses with 28",
             &self.false_sums,
         );
+        self.print_undefined();
         let outside: u64 = self.outside.values().sum();
         println!("superblocks outside the comparison {outside}");
         for (why, count) in &self.outside {
@@ -74,6 +85,19 @@ impl Plain {
         self.roots.print("root headers ");
         println!("panics of the Rust in plain files {}", self.roots.panicked);
         println!("disagreements in plain files {}", self.disagreements());
+        self.read_addresses.print("superblocks read");
+        self.refused_addresses.print("superblocks refused");
+        self.roots.print_addresses("root headers ");
+    }
+
+    fn print_undefined(&self) {
+        println!(
+            "superblocks with an undefined address, which the Rust takes for a number and the port refuses with 3 {}",
+            self.undefined.values().sum::<u64>()
+        );
+        for ((place, behind), count) in &self.undefined {
+            println!("  {}, {}: {count}", place.text(), behind.text());
+        }
     }
 }
 
@@ -84,6 +108,9 @@ impl Sum for Plain {
         add_all(&mut self.read, other.read);
         add_all(&mut self.refused, other.refused);
         add_all(&mut self.false_sums, other.false_sums);
+        add_all(&mut self.undefined, other.undefined);
+        self.read_addresses.add(other.read_addresses);
+        self.refused_addresses.add(other.refused_addresses);
         add_all(&mut self.outside, other.outside);
         self.roots.add(other.roots);
         self.shown.extend(other.shown);
@@ -147,11 +174,11 @@ fn print_smallest(judge: &mut Judge, file: &[u8]) {
 
 fn print_verdict(verdict: &PlainVerdict) {
     match verdict {
-        PlainVerdict::Read(_, root) => print_answers(root),
+        PlainVerdict::Read(.., root) => print_answers(root),
         PlainVerdict::Refused(number) => {
             println!("port and Rust:\nrefused, by the port with {number}");
         }
-        PlainVerdict::FalseSum(_) => println!("{}", summary(verdict)),
+        PlainVerdict::FalseSum(_) | PlainVerdict::Undefined(..) => println!("{}", summary(verdict)),
         PlainVerdict::Outside(why) => println!("outside the comparison: {}", why.text()),
         PlainVerdict::Differs(text) => print!("{text}"),
     }
@@ -170,12 +197,16 @@ pub fn file(arguments: &Arguments) -> io::Result<bool> {
 
 fn summary(verdict: &PlainVerdict) -> String {
     match verdict {
-        PlainVerdict::Read(_, root) => root_summary(&root.verdict),
+        PlainVerdict::Read(.., root) => root_summary(&root.verdict),
         PlainVerdict::Refused(number) => {
             format!("port and Rust refuse the superblock, the port with {number}")
         }
         PlainVerdict::FalseSum(_) => {
             "the superblock's sum is false, and the port answers 28".into()
+        }
+        PlainVerdict::Undefined(address, _) => {
+            let place = address.place.text();
+            format!("the superblock's {place} is undefined, and the port answers 3")
         }
         PlainVerdict::Outside(why) => format!("outside the comparison: {}", why.text()),
         PlainVerdict::Differs(_) => "they disagree".into(),

@@ -146,6 +146,7 @@ fn print_counts(counts: &Counts, start: Instant) {
     println!("panics of the Rust {}", counts.panicked);
     println!("disagreements {}", counts.differing);
     print_contents(counts);
+    counts.print_addresses("");
 }
 
 pub fn print_speed(count: u64, name: &str, start: Instant) {

@@ -5,11 +5,9 @@ use sides::generate::plain::plain_batch;
 use sides::input::Input;
 
 use crate::arguments::Arguments;
-use crate::breakage::{Breakage, HEADER};
+use crate::breakage::{Breakage, of_headers, of_plain};
 use crate::judge::{Judge, Verdict};
-use crate::plain_breakage::PLAIN;
 use crate::shrink::{shrink, shrink_plain};
-use crate::sum_breakage::SUMS;
 
 /// Inputs among which a breakage must show.
 const COUNT: u64 = 200_000;
@@ -29,14 +27,14 @@ pub fn self_test(arguments: &Arguments) -> bool {
     let most = arguments.count.unwrap_or(COUNT);
     println!("seed {}, at most {most} inputs for each", arguments.seed);
     let mut passed = true;
-    for breakage in HEADER.iter().chain(SUMS) {
+    for breakage in of_headers() {
         passed &= report(
             breakage,
             "input",
             in_headers(arguments.seed, most, breakage),
         );
     }
-    for breakage in PLAIN {
+    for breakage in of_plain() {
         passed &= report(
             breakage,
             "plain file",

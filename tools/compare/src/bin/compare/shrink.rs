@@ -216,10 +216,11 @@ impl Shrink<'_> {
 /// An input without some bytes; a header behind them moves with the file, and so does its end.
 fn without(mut input: Input, gone: &Range<usize>) -> Input {
     let length = gone.len() as u64;
+    let behind = gone.end as u64..=input.file.len() as u64;
     if input.end_of_file == input.file.len() as u64 {
         input.end_of_file -= length;
     }
-    if input.position >= gone.end as u64 {
+    if behind.contains(&input.position) {
         input.position -= length;
     }
     input.file.drain(gone.clone());
@@ -244,9 +245,12 @@ impl Count {
                 let inside = counted.start <= gone.start && gone.end <= counted.end;
                 inside.then_some(field)
             }
+            // One that leaves the file, as an undefined one does, counts none of its bytes.
             Count::Address(field) => {
-                let behind = get(&file[field.clone()]) >= gone.end as u64;
-                behind.then_some(field)
+                let behind = gone.end as u64..=file.len() as u64;
+                behind
+                    .contains(&get(&file[field.clone()]))
+                    .then_some(field)
             }
         };
         if let Some(field) = field {
