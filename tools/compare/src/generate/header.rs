@@ -1,6 +1,6 @@
 //! Headers: entries, chunks, continuation blocks, and the file around them.
 
-use super::maker::Maker;
+use super::maker::{Maker, UNDEFINED_RATE};
 use super::piece::{Piece, Place};
 use crate::address::all_ones;
 use crate::input::Input;
@@ -232,7 +232,9 @@ impl Maker<'_> {
 
     fn continuation(&mut self, block: usize, orders: bool) -> Piece {
         let mut body = Piece::default();
-        if self.fault() {
+        if self.fault_at(UNDEFINED_RATE) {
+            body.put(all_ones(self.offset_width), self.offset_width);
+        } else if self.fault() {
             let address = self.any_address();
             body.put(address, self.offset_width);
         } else {

@@ -1,7 +1,10 @@
 //! Inputs at the limits that only large files reach.
 
+use crate::address::LAYOUT;
 use crate::closing::make_true;
 use crate::input::{Input, put};
+use crate::random::Random;
+use crate::rust::CONTINUATION;
 
 const LARGEST_CHUNK: usize = 16_777_216;
 /// The bytes of numbers that an attribute passes at most.
@@ -40,7 +43,47 @@ fn made() -> Vec<Input> {
     for name in [65_527, 65_528, 65_529] {
         inputs.push(one_message(11, 24, &named_filter(name)));
     }
+    for kind in FAR_KINDS {
+        for address in FAR {
+            inputs.extend(FAR_ENDS.map(|end| far(kind, address, end)));
+        }
+    }
     inputs
+}
+
+/// The undefined address in 2 bytes, which is a place in a large file too.
+const UNDEFINED: u64 = 65_535;
+/// What leads there, addresses up to it, and end-of-file addresses beside it and behind what stands
+/// there.
+const FAR_KINDS: [u8; 2] = [LAYOUT, CONTINUATION];
+const FAR: [u64; 2] = [UNDEFINED - 1, UNDEFINED];
+const FAR_ENDS: [u64; 4] = [UNDEFINED - 1, UNDEFINED, UNDEFINED + 1, UNDEFINED + 12];
+
+/// One of the inputs above whose address is the undefined one or the one before.
+pub fn some_far(random: &mut Random) -> Input {
+    far(
+        random.pick(&FAR_KINDS),
+        random.pick(&FAR),
+        random.pick(&FAR_ENDS),
+    )
+}
+
+/// A header with widths of 2 whose one entry leads to an address near the undefined one. A block of
+/// 12 bytes stands there, for a continuation to open, and for a layout to have as its data.
+fn far(kind: u8, address: u64, end_of_file: u64) -> Input {
+    let mut body = if kind == LAYOUT { vec![3, 1] } else { vec![] };
+    put(&mut body, address, 2);
+    put(&mut body, 12, 2);
+    let mut input = one_message(kind, body.len(), &body);
+    input.file.resize(address as usize, 7);
+    input.file.extend(b"OCHK\0\0\0\0");
+    input.file.resize(address as usize + 16, 0);
+    Input {
+        offset_width: 2,
+        length_width: 2,
+        end_of_file,
+        ..input
+    }
 }
 
 fn header(chunk_size: usize) -> Vec<u8> {

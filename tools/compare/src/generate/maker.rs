@@ -17,6 +17,9 @@ pub struct Maker<'r> {
     rate: u64,
 }
 
+/// How often a fault is made of an undefined address that refuses a header, in thousandths.
+pub const UNDEFINED_RATE: u64 = 150;
+
 impl<'r> Maker<'r> {
     /// A maker of headers: most without a fault, some with one, a few with many.
     pub fn new(random: &'r mut Random) -> Maker<'r> {
@@ -31,6 +34,11 @@ impl<'r> Maker<'r> {
     /// A maker of headers without faults.
     pub fn good(random: &'r mut Random) -> Maker<'r> {
         Maker::with_faults(random, 0, 0)
+    }
+
+    /// A maker of headers without faults, but for one of an undefined address here and there.
+    pub fn with_undefined(random: &'r mut Random) -> Maker<'r> {
+        Maker::with_faults(random, 1, 0)
     }
 
     fn with_faults(random: &'r mut Random, faults: u32, rate: u64) -> Maker<'r> {
@@ -59,7 +67,12 @@ impl<'r> Maker<'r> {
 
     /// Whether to do something wrong here.
     pub fn fault(&mut self) -> bool {
-        let fault = self.faults > 0 && self.random.rarely(self.rate);
+        self.fault_at(self.rate)
+    }
+
+    /// The same, so many times in a thousand.
+    pub fn fault_at(&mut self, rate: u64) -> bool {
+        let fault = self.faults > 0 && self.random.rarely(rate);
         self.faults -= u32::from(fault);
         fault
     }

@@ -1,6 +1,6 @@
 //! The bodies of messages.
 
-use super::maker::Maker;
+use super::maker::{Maker, UNDEFINED_RATE};
 use super::piece::{Piece, Place};
 use crate::address::all_ones;
 
@@ -164,10 +164,11 @@ impl Maker<'_> {
         } else {
             [0, 1, some]
         };
-        let size = self.choose(
-            &sizes,
-            &[CONTIGUOUS_LIMIT, CONTIGUOUS_LIMIT - 1, u64::MAX, 1 << 16],
-        );
+        let strange = &[CONTIGUOUS_LIMIT, CONTIGUOUS_LIMIT - 1, u64::MAX, 1 << 16];
+        let size = match nowhere && self.fault_at(UNDEFINED_RATE) {
+            true => self.random.pick(strange),
+            false => self.choose(&sizes, strange),
+        };
         piece.put(size, self.length_width);
     }
 

@@ -22,6 +22,12 @@ pub const BATCH: usize = 1000;
 /// How far behind its position the bytes of a real header are damaged.
 const REAL_SPAN: usize = 600;
 
+/// Inputs that are damaged although an undefined address may refuse them, in thousandths.
+const UNDEFINED: u64 = 100;
+
+/// Inputs of a file that is larger than an address of 2 bytes, in thousandths.
+const FAR: u64 = 2;
+
 /// Shows the inputs of a batch. `real` are the headers of real files, if any.
 pub fn batch(seed: u64, number: u64, real: &[Input], show: &mut dyn FnMut(&Input)) {
     let mut random = Random::new(seed, number);
@@ -36,14 +42,26 @@ pub fn batch(seed: u64, number: u64, real: &[Input], show: &mut dyn FnMut(&Input
         _ if of_real => damaged_real(&mut random, real, &mut show),
         15 => (0..BATCH).for_each(|_| show(&spliced(&mut random))),
         16 => (0..BATCH).for_each(|_| show(&damage::short(&mut random))),
-        _ => (0..BATCH).for_each(|_| show(&Maker::new(&mut random).early(early).input())),
+        _ => (0..BATCH).for_each(|_| show(&made(&mut random, early))),
+    }
+}
+
+fn made(random: &mut Random, early: bool) -> Input {
+    match random.rarely(FAR) {
+        true => large::some_far(random),
+        false => Maker::new(random).early(early).input(),
     }
 }
 
 fn damaged(random: &mut Random, early: bool, show: &mut dyn FnMut(&Input)) {
     let mut left = BATCH;
     while left > 0 {
-        let mut input = Maker::good(random).early(early).input();
+        let undefined = random.rarely(UNDEFINED);
+        let maker = match undefined {
+            true => Maker::with_undefined(random),
+            false => Maker::good(random),
+        };
+        let mut input = maker.early(early).input();
         make_true(&mut input);
         let range = 0..input.file.len();
         left -= damage::every_byte_of(&input, range, left, random, show);

@@ -2,6 +2,7 @@
 
 use super::maker::Maker;
 use super::piece::Piece;
+use crate::address::all_ones;
 use crate::input::padding;
 
 const SINGLE: [u8; 12] = [0, 0, 32, 0, 23, 8, 0, 23, 127, 0, 0, 0];
@@ -190,7 +191,7 @@ impl Maker<'_> {
 
     /// A size that is allowed, and fits the width.
     fn size(&mut self) -> u64 {
-        let ones = Maker::all_ones(self.length_width);
+        let ones = all_ones(self.length_width);
         let limit = LARGEST_SIZE.min(ones);
         if ones > LARGEST_SIZE && self.fault() {
             let high = 1 << (8 * u32::from(self.length_width) - 8);
@@ -206,7 +207,7 @@ impl Maker<'_> {
 
     fn maximum(&mut self) -> u64 {
         if self.random.rarely(400) {
-            return Maker::all_ones(self.length_width);
+            return all_ones(self.length_width);
         }
         self.size()
     }

@@ -92,7 +92,7 @@ impl Addresses {
             let each = (2..=8).map(|width| widths.get(&width).copied().unwrap_or(0));
             let each: Vec<String> = each.map(|count| count.to_string()).collect();
             println!(
-                "{name} with a {} {case} {all}, by widths {}",
+                "{name}, {case}: {}: {all}, by widths {}",
                 place.text(),
                 each.join(" ")
             );

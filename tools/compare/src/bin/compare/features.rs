@@ -1,5 +1,6 @@
 //! What an input shows: labels by which the stored inputs are chosen and named.
 
+use sides::address::{Address, Place, Seen, all_ones};
 use sides::answer::{Header, Row};
 use sides::input::{Input, get, padding};
 use sides::rust::Entry;
@@ -8,11 +9,12 @@ use sides::sum::{Closing, STEP};
 
 use crate::counts::{is_covered, is_overrun};
 
-/// The groups of padded forms, and of sums.
+/// The groups of padded forms, of sums, and of undefined addresses.
 const MEMBER_1: &str = "version-1-member";
 const MEMBER_3: &str = "version-3-member";
 const NAME_1: &str = "version-1-name";
 const SUM: &str = "sum";
+const ADDRESS: &str = "undefined-address";
 
 /// A group, which names the stored input, and what is shown in it.
 #[derive(Clone, Debug, PartialEq, Eq, PartialOrd, Ord, Hash)]
@@ -22,9 +24,9 @@ pub struct Feature {
 }
 
 impl Feature {
-    /// Whether a padded form or a sum is what is shown.
-    pub fn is_form_or_sum(&self) -> bool {
-        [MEMBER_1, MEMBER_3, NAME_1, SUM].contains(&self.group.as_str())
+    /// Whether a padded form, a sum or an undefined address is what is shown.
+    pub fn is_first(&self) -> bool {
+        [MEMBER_1, MEMBER_3, NAME_1, SUM, ADDRESS].contains(&self.group.as_str())
     }
 }
 
@@ -237,6 +239,58 @@ pub fn of_sums(header: &Header, closings: &[Closing]) -> Vec<Feature> {
     named.collect()
 }
 
+/// What the addresses of an accepted input show: those that are undefined or one below, by places
+/// and widths, and what the layout that wins has beside its data.
+pub fn of_addresses(input: &Input, header: &Header, addresses: &[Seen]) -> Vec<Feature> {
+    let mut details: Vec<String> = addresses.iter().map(of_address).collect();
+    let layout = &header.records.layout_address;
+    let lies = match layout.address {
+        _ if layout.present == 0 => "absent",
+        Address::UNDEFINED => "undefined",
+        Address { number: 0, .. } => "zero",
+        Address { number, .. } if number >= input.end_of_file => "behind the end of file",
+        _ => "in the file",
+    };
+    let data = if header.data.is_empty() { "no" } else { "some" };
+    details.push(format!("layout {lies} with {data} data"));
+    details.push(format!("layout {lies}, {}", end_of_file(input)));
+    details.push(format!("layout {lies}, {}", widths(input)));
+    named(details)
+}
+
+/// What the undefined address shows that refuses an input, or is in front of a size that does: by its
+/// width, and by what is left of the file behind it.
+pub fn of_demand(input: &Input, number: u64, last: Option<&Entry>, seen: &[Seen]) -> Vec<Feature> {
+    let (Some(last), Some(seen)) = (last, seen.last()) else {
+        return Vec::new();
+    };
+    let left = input.file.len().saturating_sub(last.body).min(24);
+    named(vec![
+        format!("refused {number} {}", of_address(seen)),
+        format!("refused {number} left {left}"),
+        format!("refused {number} {}", end_of_file(input)),
+    ])
+}
+
+/// What a continuation's offset shows that is one below undefined, and refuses an input.
+pub fn of_last_address(number: u64, seen: &[Seen]) -> Vec<Feature> {
+    let last = seen.last().filter(|seen| seen.place == Place::Continuation);
+    named(
+        last.map(|seen| format!("refused {number} {}", of_address(seen)))
+            .into_iter()
+            .collect(),
+    )
+}
+
+fn of_address(seen: &Seen) -> String {
+    format!("{} {} width {}", seen.place.text(), seen.case, seen.width)
+}
+
+fn named(details: Vec<String>) -> Vec<Feature> {
+    let named = details.into_iter().map(|detail| feature(ADDRESS, detail));
+    named.collect()
+}
+
 /// What the padded forms of an input show, beside how they are answered.
 pub fn of_forms(input: &Input, answered: &str, forms: &[Form]) -> Vec<Feature> {
     let mut features = Vec::new();
@@ -334,9 +388,12 @@ fn widths(input: &Input) -> String {
 
 fn end_of_file(input: &Input) -> String {
     let length = input.file.len() as u64;
+    let ones = all_ones(input.offset_width);
     let place = match input.end_of_file {
         0 => "0",
         u64::MAX => "largest",
+        end if end == ones => "all ones",
+        end if end == ones - 1 => "one below all ones",
         end if end < length => "below the length",
         end if end == length => "the length",
         _ => "above the length",

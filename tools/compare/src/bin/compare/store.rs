@@ -4,6 +4,7 @@ use std::collections::{BTreeMap, HashSet};
 use std::io;
 use std::path::Path;
 
+use sides::address::Seen;
 use sides::answer::REFUSED;
 use sides::generate::{BATCH, batch};
 use sides::input::Input;
@@ -13,8 +14,12 @@ use sides::rust::{self, mended};
 use sides::scan;
 
 use crate::arguments::Arguments;
-use crate::features::{BY_FORMS, Feature, of_forms, of_header, of_refusal, of_sums};
-use crate::judge::{Judge, Judged, Verdict};
+use crate::counts::Addresses;
+use crate::features::{
+    BY_FORMS, Feature, of_addresses, of_demand, of_forms, of_header, of_last_address, of_refusal,
+    of_sums,
+};
+use crate::judge::{Judge, Judged, OF_CONTINUATION, Verdict};
 
 const COUNT: u64 = 4000;
 const BYTES: usize = 1_500_000;
@@ -35,6 +40,8 @@ struct Chosen {
     /// Who answers so: both Rusts, or the mended one alone.
     by: &'static str,
     report: Vec<u8>,
+    /// Undefined addresses, and those one below.
+    addresses: Vec<Seen>,
 }
 
 /// Writes the store. It is refused, and nothing is written, where the two sides disagree.
@@ -64,7 +71,25 @@ pub fn store(arguments: &Arguments, path: &Path) -> io::Result<bool> {
         chosen.len(),
         bytes.len()
     );
+    print_addresses(&chosen);
     Ok(true)
+}
+
+/// How many of the stored inputs have an undefined address, at each place.
+fn print_addresses(chosen: &[Chosen]) {
+    let (mut accepted, mut refused) = (Addresses::default(), Addresses::default());
+    let mut undefined = 0;
+    for one in chosen {
+        let counts = match one.report == REFUSED {
+            true => &mut refused,
+            false => &mut accepted,
+        };
+        counts.count(one.addresses.iter().copied());
+        undefined += u64::from(one.addresses.iter().any(Seen::is_undefined));
+    }
+    println!("stored inputs with an undefined address {undefined}");
+    accepted.print("stored and accepted");
+    refused.print("stored and refused");
 }
 
 /// Notes what an input shows. False where the sides disagree.
@@ -88,12 +113,19 @@ fn features(input: &Input, judged: &Judged) -> Vec<Feature> {
         Verdict::Accepted(header) if header.rows.len() <= MOST_ROWS && header.is_utf8() => {
             let mut features = of_header(input, header);
             features.extend(of_sums(header, &judged.closings));
+            features.extend(of_addresses(input, header, &found.addresses));
             features.extend(of_forms(input, "accepted", &found.forms));
             features.extend(of_forms(input, "failing", &found.failed));
             features
         }
         Verdict::Refused(number) => {
-            let mut features = of_refusal(input, *number, &mended::rust_answer(input).entries);
+            let entries = mended::rust_answer(input).entries;
+            let mut features = of_refusal(input, *number, &entries);
+            if judged.demanded.is_some() {
+                features.extend(of_demand(input, *number, entries.last(), &found.addresses));
+            } else if *number == OF_CONTINUATION {
+                features.extend(of_last_address(*number, &found.addresses));
+            }
             if BY_FORMS.contains(number) {
                 features.extend(of_forms(input, &format!("refused {number}"), &found.failed));
             }
@@ -134,12 +166,13 @@ fn choose(shown: &Shown, seed: u64, count: usize) -> Vec<Chosen> {
 }
 
 /// Features in a random order, so that none is left out for its name alone, rank by rank. Those of
-/// padded forms and of sums come first: they are few, and there is not room for all others.
+/// padded forms, of sums and of undefined addresses come first: they are few, and there is not room
+/// for all others.
 fn ranked(shown: &Shown, seed: u64) -> Vec<(&Feature, &Input)> {
     let mut random = Random::new(seed, u64::MAX);
     let mut features: Vec<_> = shown
         .iter()
-        .map(|shown| ((!shown.0.is_form_or_sum(), random.number()), shown))
+        .map(|shown| ((!shown.0.is_first(), random.number()), shown))
         .collect();
     features.sort_by_key(|(order, _)| *order);
     let at_rank = |rank: usize| {
@@ -162,6 +195,7 @@ fn answered(feature: &Feature, input: &Input) -> Chosen {
             rust::Outcome::Read(header) => header.report(),
             _ => REFUSED.to_vec(),
         },
+        addresses: found.addresses,
     }
 }
 
