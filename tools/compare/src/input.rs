@@ -16,6 +16,15 @@ pub struct Input {
     pub file: Vec<u8>,
 }
 
+/// An end-of-file address beside all ones of the width of offsets.
+#[derive(Clone, Copy, Debug, PartialEq, Eq, PartialOrd, Ord)]
+pub enum End {
+    OneBelow,
+    AllOnes,
+    OneAbove,
+    Above,
+}
+
 impl Input {
     /// The lead bytes, then the file.
     pub fn to_bytes(&self) -> Vec<u8> {
@@ -48,7 +57,22 @@ impl Input {
     /// Whether end-of-file is above all ones of the width of offsets, so that to the Rust an undefined
     /// address may lie in the file.
     pub fn is_above_addresses(&self) -> bool {
-        self.has_widths() && self.end_of_file > all_ones(self.offset_width)
+        matches!(self.end(), Some(End::OneAbove | End::Above))
+    }
+
+    /// Where end-of-file lies beside all ones of the width of offsets; nothing where it is smaller.
+    pub fn end(&self) -> Option<End> {
+        if !self.has_widths() {
+            return None;
+        }
+        let ones = all_ones(self.offset_width);
+        match self.end_of_file {
+            end if end > ones && end - ones == 1 => Some(End::OneAbove),
+            end if end > ones => Some(End::Above),
+            end if end == ones => Some(End::AllOnes),
+            end if end == ones - 1 => Some(End::OneBelow),
+            _ => None,
+        }
     }
 
     /// Where the header's chunk size stands, as its flags have it.

@@ -45,7 +45,7 @@ fn made() -> Vec<Input> {
     }
     for kind in FAR_KINDS {
         for address in FAR {
-            inputs.extend(FAR_ENDS.map(|end| far(kind, address, end)));
+            inputs.extend(FAR_ENDS.map(|end| far(kind, address, [2, 2], end)));
         }
     }
     inputs
@@ -59,28 +59,30 @@ const FAR_KINDS: [u8; 2] = [LAYOUT, CONTINUATION];
 const FAR: [u64; 2] = [UNDEFINED - 1, UNDEFINED];
 const FAR_ENDS: [u64; 4] = [UNDEFINED - 1, UNDEFINED, UNDEFINED + 1, UNDEFINED + 12];
 
-/// One of the inputs above whose address is the undefined one or the one before.
+/// One like those above whose address is the undefined one or the one before, or, in a width of 3,
+/// the same number.
 pub fn some_far(random: &mut Random) -> Input {
     far(
         random.pick(&FAR_KINDS),
         random.pick(&FAR),
+        [random.pick(&[2, 2, 3]), random.pick(&[2, 3])],
         random.pick(&FAR_ENDS),
     )
 }
 
-/// A header with widths of 2 whose one entry leads to an address near the undefined one. A block of
-/// 12 bytes stands there, for a continuation to open, and for a layout to have as its data.
-fn far(kind: u8, address: u64, end_of_file: u64) -> Input {
+/// A header whose one entry leads to an address, with widths of offsets and of lengths. A block of 12
+/// bytes stands there, for a continuation to open, and for a layout to have as its data.
+fn far(kind: u8, address: u64, widths: [u8; 2], end_of_file: u64) -> Input {
     let mut body = if kind == LAYOUT { vec![3, 1] } else { vec![] };
-    put(&mut body, address, 2);
-    put(&mut body, 12, 2);
+    put(&mut body, address, widths[0]);
+    put(&mut body, 12, widths[1]);
     let mut input = one_message(kind, body.len(), &body);
     input.file.resize(address as usize, 7);
     input.file.extend(b"OCHK\0\0\0\0");
     input.file.resize(address as usize + 16, 0);
     Input {
-        offset_width: 2,
-        length_width: 2,
+        offset_width: widths[0],
+        length_width: widths[1],
         end_of_file,
         ..input
     }

@@ -175,10 +175,10 @@ impl Maker<'_> {
     /// 0, undefined or one below it, at the end of the file or after it.
     fn address_without_data(&mut self, piece: &mut Piece) {
         let width = self.offset_width;
-        match self.random.below(8) {
+        match self.random.below(9) {
             0 | 1 => piece.put(0, width),
-            2 | 3 => piece.put(all_ones(width), width),
-            4 => piece.put(all_ones(width) - 1, width),
+            2..5 => piece.put(all_ones(width), width),
+            5 => piece.put(all_ones(width) - 1, width),
             _ => {
                 let shift = self.choose(&[0, 0, 1, 7], &[u64::MAX, u64::MAX - 1]);
                 piece.link(Place::End, shift, width);

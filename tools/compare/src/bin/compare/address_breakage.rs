@@ -45,10 +45,10 @@ pub const ADDRESSES: &[Breakage] = &[
         reads(i, o, by_lengths)
     }),
     breakage("undefined-one-below", |i, o| reads(i, o, one_below)),
-    breakage("undefined-of-ones-in-4-bytes", |i, o| reads(i, o, in_4_bytes)),
-    breakage("undefined-with-its-number", |i, o| {
-        reads(i, o, with_number)
+    breakage("undefined-of-ones-in-4-bytes", |i, o| {
+        reads(i, o, in_4_bytes)
     }),
+    breakage("undefined-with-its-number", |i, o| reads(i, o, with_number)),
     breakage("zero-undefined", |i, o| reads(i, o, zero_undefined)),
     breakage("undefined-in-link-info-only", |i, o| {
         header(o, |h| undefined_in_link_info(i, h))
@@ -89,7 +89,9 @@ pub const ADDRESSES: &[Breakage] = &[
         of_another(i, o, |layouts| layouts.first())
     }),
     breakage("layout-address-of-the-one-before", |i, o| {
-        of_another(i, o, |layouts| layouts.iter().nth_back(1).or(layouts.last()))
+        of_another(i, o, |layouts| {
+            layouts.iter().nth_back(1).or(layouts.last())
+        })
     }),
     breakage("layout-address-of-the-last-with-one", |i, o| {
         header(o, |h| keep_address(i, h))
@@ -167,9 +169,7 @@ pub const PLAIN_ADDRESSES: &[Breakage] = &[
     plain("27-for-undefined-end-of-file", |f, a| {
         instead(f, a, Place::EndOfFile, 27)
     }),
-    plain("4-for-undefined-root", |f, a| {
-        instead(f, a, Place::Root, 4)
-    }),
+    plain("4-for-undefined-root", |f, a| instead(f, a, Place::Root, 4)),
     plain("3-for-undefined-base", |f, a| {
         if a.super_block == Err(27) && base_is_undefined(f) {
             a.super_block = Err(3);
@@ -377,7 +377,9 @@ fn of_compact_data(header: &mut Header) {
 fn keep_address(input: &Input, header: &mut Header) {
     let entries = rust_walk(input).entries;
     let layouts = entries.iter().filter(|entry| entry.kind == LAYOUT);
-    let number = layouts.filter_map(|entry| numbers(input, entry).next()).last();
+    let number = layouts
+        .filter_map(|entry| numbers(input, entry).next())
+        .last();
     if let Some((_, number)) = number {
         header.records.layout_address = Some(Address::read(number, input.offset_width)).into();
     }

@@ -4,6 +4,7 @@ use std::collections::{BTreeMap, BTreeSet};
 
 use sides::address::{Case, Place, Seen};
 use sides::answer::Header;
+use sides::input::End;
 use sides::scan::Form;
 use sides::sum::{Closing, Of};
 
@@ -124,6 +125,8 @@ pub struct Counts {
     followed_otherwise: u64,
     /// Headers that are refused with the number that an undefined address asks for.
     demanded: BTreeMap<u64, u64>,
+    /// End-of-file addresses of headers that are accepted, refused, or outside for them.
+    ends: BTreeMap<End, u64>,
     accepted_addresses: Addresses,
     refused_addresses: Addresses,
     pub panicked: u64,
@@ -147,6 +150,10 @@ impl Counts {
         let alike = matches!(judged.verdict, Verdict::Accepted(_) | Verdict::Refused(_));
         if alike {
             self.sums += judged.closings.len() as u64;
+        }
+        let for_its_end = matches!(judged.verdict, Verdict::Outside(Exclusion::EndOfFile));
+        if let Some(end) = judged.end.filter(|_| alike || for_its_end) {
+            count(&mut self.ends, end);
         }
         if alike || matches!(judged.verdict, Verdict::Differs(_)) {
             self.beside.count(judged);
@@ -173,9 +180,7 @@ impl Counts {
             count(&mut self.demanded, number);
         }
         let offset = judged.found.addresses.last().copied();
-        let refusing = |seen: &Seen| {
-            number == OF_CONTINUATION && seen.place == Place::Continuation
-        };
+        let refusing = |seen: &Seen| number == OF_CONTINUATION && seen.place == Place::Continuation;
         self.refused_addresses.count(offset.filter(refusing));
     }
 
@@ -244,6 +249,12 @@ impl Counts {
         for (number, count) in &self.demanded {
             println!("{name}refused with {number}, as an undefined address asks for {count}");
         }
+        for (end, count) in &self.ends {
+            println!(
+                "{name}with an end-of-file address {} {count}",
+                end_text(*end)
+            );
+        }
     }
 }
 
@@ -265,6 +276,7 @@ impl Sum for Counts {
         self.followed += other.followed;
         self.followed_otherwise += other.followed_otherwise;
         add_all(&mut self.demanded, other.demanded);
+        add_all(&mut self.ends, other.ends);
         self.accepted_addresses.add(other.accepted_addresses);
         self.refused_addresses.add(other.refused_addresses);
         add_all(&mut self.types, other.types);
@@ -335,6 +347,15 @@ pub fn print_contents(counts: &Counts) {
     );
     for (form, count) in &counts.forms {
         println!("accepted headers with {form} {count}");
+    }
+}
+
+fn end_text(end: End) -> &'static str {
+    match end {
+        End::OneBelow => "one below all ones",
+        End::AllOnes => "of all ones",
+        End::OneAbove => "one above all ones",
+        End::Above => "further above all ones",
     }
 }
 

@@ -11,7 +11,7 @@
 use sides::address::{LAYOUT, Place, all_ones, numbers};
 use sides::answer::{Header, REFUSED};
 use sides::closing::{first_false, reached};
-use sides::input::{Input, get};
+use sides::input::{End, Input, get};
 use sides::port::{self, PlainAnswer, Port};
 use sides::rust::{self, Entry, mended, published};
 use sides::scan::{self, Found, Outside};
@@ -72,6 +72,7 @@ pub struct Judged {
     pub found: Found,
     /// The number that an undefined address asks for.
     pub demanded: Option<u64>,
+    pub end: Option<End>,
     /// The published Rust's answer, where it is not the mended one's.
     pub otherwise: Option<rust::Outcome>,
 }
@@ -131,6 +132,7 @@ fn unasked(port: &port::Outcome) -> Judged {
         closings: Vec::new(),
         found: Found::default(),
         demanded: None,
+        end: None,
         otherwise: None,
     }
 }
@@ -193,6 +195,7 @@ impl Answers<'_> {
             closings: self.closings,
             found: self.found,
             demanded: self.demanded,
+            end: self.input.end(),
             otherwise: (self.published != self.mended).then_some(self.published),
         }
     }

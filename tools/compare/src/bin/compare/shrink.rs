@@ -248,9 +248,7 @@ impl Count {
             // One that leaves the file, as an undefined one does, counts none of its bytes.
             Count::Address(field) => {
                 let behind = gone.end as u64..=file.len() as u64;
-                behind
-                    .contains(&get(&file[field.clone()]))
-                    .then_some(field)
+                behind.contains(&get(&file[field.clone()])).then_some(field)
             }
         };
         if let Some(field) = field {
