@@ -3,7 +3,7 @@
 
 use std::io::Write;
 
-use crate::address::{Address, OptionalAddress};
+use crate::address::{Address, OptionalAddress, Place, Seen, all_ones};
 use crate::input::Input;
 
 /// What a superblock hands out.
@@ -161,6 +161,31 @@ pub struct Records {
     pub group_info: GroupInfo,
     pub attribute_info: AttributeInfo,
     pub layout_address: OptionalAddress,
+}
+
+impl Records {
+    /// The undefined addresses, and those one below, in a width of offsets.
+    pub fn seen(&self, offset_width: u8) -> Vec<Seen> {
+        let (link, attribute) = (&self.link_info, &self.attribute_info);
+        let places = [
+            (Place::LinkHeap, link.fractal_heap_address),
+            (Place::LinkIndex, link.address_btree_index),
+            (Place::LinkOrder, link.address_btree_order.address),
+            (Place::AttributeHeap, attribute.fractal_heap_address),
+            (Place::AttributeNames, attribute.attribute_name_btree),
+            (
+                Place::AttributeOrder,
+                attribute.attribute_creation_order_btree,
+            ),
+            (Place::Layout, self.layout_address.address),
+        ];
+        let number = |address: Address| match address {
+            Address::UNDEFINED => all_ones(offset_width),
+            Address { number, .. } => number,
+        };
+        let seen = places.map(|(place, address)| Seen::new(place, number(address), offset_width));
+        seen.into_iter().flatten().collect()
+    }
 }
 
 #[derive(Clone, Debug, Default, PartialEq, Eq)]

@@ -1,6 +1,6 @@
 //! What an input shows: labels by which the stored inputs are chosen and named.
 
-use sides::address::{Address, Place, Seen, all_ones};
+use sides::address::{Address, LAYOUT, Place, Seen, all_ones};
 use sides::answer::{Header, Row};
 use sides::input::{Input, get, padding};
 use sides::rust::Entry;
@@ -252,7 +252,9 @@ pub fn of_addresses(input: &Input, header: &Header, addresses: &[Seen]) -> Vec<F
         _ => "in the file",
     };
     let data = if header.data.is_empty() { "no" } else { "some" };
+    let layouts = header.rows.iter().filter(|row| row.kind == LAYOUT.into());
     details.push(format!("layout {lies} with {data} data"));
+    details.push(format!("layout {lies}, the last of {}", layouts.count()));
     details.push(format!("layout {lies}, {}", end_of_file(input)));
     details.push(format!("layout {lies}, {}", widths(input)));
     named(details)

@@ -4,7 +4,7 @@ use std::collections::{BTreeMap, HashSet};
 use std::io;
 use std::path::Path;
 
-use sides::address::Seen;
+use sides::address::{self, Seen};
 use sides::answer::REFUSED;
 use sides::generate::{BATCH, batch};
 use sides::input::Input;
@@ -19,7 +19,7 @@ use crate::features::{
     BY_FORMS, Feature, of_addresses, of_demand, of_forms, of_header, of_last_address, of_refusal,
     of_sums,
 };
-use crate::judge::{Judge, Judged, OF_CONTINUATION, Verdict};
+use crate::judge::{Judge, Judged, OF_CONTINUATION, Verdict, demanded};
 
 const COUNT: u64 = 4000;
 const BYTES: usize = 1_500_000;
@@ -40,7 +40,8 @@ struct Chosen {
     /// Who answers so: both Rusts, or the mended one alone.
     by: &'static str,
     report: Vec<u8>,
-    /// Undefined addresses, and those one below.
+    /// The undefined addresses, and those one below, of the records that win, or the undefined one
+    /// that an input is refused at.
     addresses: Vec<Seen>,
 }
 
@@ -75,7 +76,7 @@ pub fn store(arguments: &Arguments, path: &Path) -> io::Result<bool> {
     Ok(true)
 }
 
-/// How many of the stored inputs have an undefined address, at each place.
+/// How many of the stored answers show an undefined address, at each place.
 fn print_addresses(chosen: &[Chosen]) {
     let (mut accepted, mut refused) = (Addresses::default(), Addresses::default());
     let mut undefined = 0;
@@ -87,7 +88,7 @@ fn print_addresses(chosen: &[Chosen]) {
         counts.count(one.addresses.iter().copied());
         undefined += u64::from(one.addresses.iter().any(Seen::is_undefined));
     }
-    println!("stored inputs with an undefined address {undefined}");
+    println!("stored answers that show an undefined address {undefined}");
     accepted.print("stored and accepted");
     refused.print("stored and refused");
 }
@@ -187,15 +188,23 @@ fn ranked(shown: &Shown, seed: u64) -> Vec<(&Feature, &Input)> {
 fn answered(feature: &Feature, input: &Input) -> Chosen {
     let answer = mended::rust_answer(input);
     let found = scan::header(input, &answer.entries);
+    let refusing = answer
+        .entries
+        .last()
+        .filter(|last| demanded(input, last).is_some());
+    let (report, addresses) = match (answer.outcome, refusing) {
+        (rust::Outcome::Read(header), _) => {
+            (header.report(), header.records.seen(input.offset_width))
+        }
+        (_, Some(last)) => (REFUSED.to_vec(), address::seen(input, &[*last])),
+        (_, None) => (REFUSED.to_vec(), Vec::new()),
+    };
     Chosen {
         group: feature.group.clone(),
         input: input.clone(),
         by: if found.is_mended() { "mended" } else { "both" },
-        report: match answer.outcome {
-            rust::Outcome::Read(header) => header.report(),
-            _ => REFUSED.to_vec(),
-        },
-        addresses: found.addresses,
+        report,
+        addresses,
     }
 }
 
