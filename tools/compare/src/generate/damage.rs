@@ -102,6 +102,23 @@ pub fn short(random: &mut Random) -> Input {
     }
 }
 
+/// A header that ends behind the undefined offset of a continuation, or within the length.
+pub fn cut_continuation(random: &mut Random) -> Input {
+    let offset_width = random.within(2, 8) as u8;
+    let length_width = random.within(2, 8) as u8;
+    let mut file = b"OHDR\x02\0\x20\x10\x10\0\0".to_vec();
+    file.resize(file.len() + usize::from(offset_width), 255);
+    let left = random.below(u64::from(length_width) + 1) as usize;
+    file.resize_with(file.len() + left, || few_values(random));
+    Input {
+        offset_width,
+        length_width,
+        end_of_file: file.len() as u64,
+        position: 0,
+        file,
+    }
+}
+
 /// Small numbers, which are types, versions and sizes, more often than others.
 fn few_values(random: &mut Random) -> u8 {
     match random.below(10) {

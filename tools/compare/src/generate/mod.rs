@@ -25,6 +25,8 @@ const REAL_SPAN: usize = 600;
 /// Inputs that are damaged although an undefined address may refuse them, in thousandths.
 const UNDEFINED: u64 = 100;
 
+/// Short files that end behind an undefined offset, in thousandths.
+const CUT_CONTINUATIONS: u64 = 40;
 /// Inputs of a file that is larger than an address of 2 bytes, in thousandths.
 const FAR: u64 = 2;
 
@@ -41,7 +43,7 @@ pub fn batch(seed: u64, number: u64, real: &[Input], show: &mut dyn FnMut(&Input
         _ if of_good => damaged(&mut random, early, &mut show),
         _ if of_real => damaged_real(&mut random, real, &mut show),
         15 => (0..BATCH).for_each(|_| show(&spliced(&mut random))),
-        16 => (0..BATCH).for_each(|_| show(&damage::short(&mut random))),
+        16 => (0..BATCH).for_each(|_| show(&short(&mut random))),
         _ => (0..BATCH).for_each(|_| show(&made(&mut random, early))),
     }
 }
@@ -50,6 +52,13 @@ fn made(random: &mut Random, early: bool) -> Input {
     match random.rarely(FAR) {
         true => large::some_far(random),
         false => Maker::new(random).early(early).input(),
+    }
+}
+
+fn short(random: &mut Random) -> Input {
+    match random.rarely(CUT_CONTINUATIONS) {
+        true => damage::cut_continuation(random),
+        false => damage::short(random),
     }
 }
 

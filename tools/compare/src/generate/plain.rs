@@ -11,6 +11,8 @@ use crate::random::Random;
 
 /// How many bytes of a real file are damaged: its superblock, whatever its version.
 const REAL_SPAN: usize = 100;
+/// Files that are damaged although an undefined address may refuse them, in thousandths.
+const UNDEFINED: u64 = 80;
 /// So that plain files have other random numbers than the inputs of headers.
 const FIRST_BATCH: u64 = 1 << 32;
 
@@ -65,8 +67,12 @@ fn made(random: &mut Random) -> Vec<u8> {
 fn damaged(random: &mut Random, whole: bool, show: &mut dyn FnMut(&[u8])) {
     let mut left = BATCH;
     while left > 0 {
+        let fault = match random.rarely(UNDEFINED) {
+            true => random.pick(&[Fault::EndOfFile, Fault::Root]),
+            false => Fault::Nothing,
+        };
         let mut maker = Maker::good(random);
-        let mut file = maker.plain(Fault::Nothing);
+        let mut file = maker.plain(fault);
         make_true(&mut file);
         let end = if whole { file.len() } else { maker.front + 1 };
         let range = 0..end.min(file.len());
