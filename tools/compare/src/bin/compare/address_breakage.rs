@@ -377,10 +377,8 @@ fn of_compact_data(header: &mut Header) {
 fn keep_address(input: &Input, header: &mut Header) {
     let entries = rust_walk(input).entries;
     let layouts = entries.iter().filter(|entry| entry.kind == LAYOUT);
-    let number = layouts
-        .filter_map(|entry| numbers(input, entry).next())
-        .last();
-    if let Some((_, number)) = number {
+    let mut numbers = layouts.filter_map(|entry| numbers(input, entry).next());
+    if let Some((_, number)) = numbers.next_back() {
         header.records.layout_address = Some(Address::read(number, input.offset_width)).into();
     }
 }
