@@ -1,36 +1,25 @@
-//! Wrong ports that take undefined addresses for numbers, numbers for undefined addresses, or one
-//! address for another.
+//! Wrong ports that take undefined addresses of headers for numbers, numbers for undefined addresses,
+//! or one address for another.
 
 use sides::address::{Address, LAYOUT, OptionalAddress, Place, all_ones, numbers};
-use sides::answer::{Header, SuperBlock};
-use sides::closing::super_block;
+use sides::answer::Header;
 use sides::input::Input;
-use sides::plain::{VERSION, address, as_version_2, seen};
-use sides::port::{Outcome, PlainAnswer};
+use sides::port::Outcome;
 use sides::rust::mended::rust_walk;
-use sides::rust::published::{rust_answer, rust_super_block};
+use sides::rust::published::rust_answer;
 use sides::rust::{self, Entry};
 
 use crate::breakage::{Breakage, Change, header};
-use crate::judge::{CHECKSUM, OF_CONTINUATION, OF_LAYOUT, demanded};
-use crate::plain_breakage::{block, extension, refuse};
+use crate::judge::{OF_CONTINUATION, OF_LAYOUT, demanded};
 
 type Given = fn(&Input, Outcome) -> Outcome;
-type Plain = fn(&[u8], &mut PlainAnswer);
 /// What a port makes of a number, of the widths of offsets and of lengths.
-type Reads = fn(u64, u8, u8) -> Address;
+pub type Reads = fn(u64, u8, u8) -> Address;
 
 const fn breakage(name: &'static str, change: Given) -> Breakage {
     Breakage {
         name,
         change: Change::Given(change),
-    }
-}
-
-const fn plain(name: &'static str, change: Plain) -> Breakage {
-    Breakage {
-        name,
-        change: Change::Plain(change),
     }
 }
 
@@ -122,75 +111,6 @@ pub const ADDRESSES: &[Breakage] = &[
     }),
 ];
 
-pub const PLAIN_ADDRESSES: &[Breakage] = &[
-    plain("extension-undefined-never", |_, a| {
-        block(a, |b| of_extension(b, never))
-    }),
-    plain("extension-undefined-as-8-bytes", |_, a| {
-        block(a, |b| of_extension(b, as_8_bytes))
-    }),
-    plain("extension-undefined-at-width-8-only", |_, a| {
-        block(a, |b| of_extension(b, at_width_8))
-    }),
-    plain("extension-undefined-by-the-length-width", |_, a| {
-        block(a, |b| of_extension(b, by_lengths))
-    }),
-    plain("extension-undefined-one-below", |_, a| {
-        block(a, |b| of_extension(b, one_below))
-    }),
-    plain("extension-undefined-with-its-number", |_, a| {
-        block(a, |b| of_extension(b, with_number))
-    }),
-    plain("extension-words-swapped", |_, a| {
-        block(a, |b| {
-            extension(b, |x| std::mem::swap(&mut x.undefined, &mut x.number))
-        })
-    }),
-    plain("extension-case-at-end-of-file", |_, a| {
-        block(a, case_at_end)
-    }),
-    plain("extension-case-lost-words-moved", |_, a| block(a, moved)),
-    plain("undefined-extension-refused", |_, a| {
-        if is_undefined(a) {
-            refuse(a, 3);
-        }
-    }),
-    plain("undefined-end-of-file-read", |f, a| {
-        as_rust(f, a, Place::EndOfFile)
-    }),
-    plain("undefined-root-followed", |f, a| as_rust(f, a, Place::Root)),
-    plain("28-for-undefined-end-of-file", |f, a| {
-        instead(f, a, Place::EndOfFile, CHECKSUM)
-    }),
-    plain("28-for-undefined-root", |f, a| {
-        instead(f, a, Place::Root, CHECKSUM)
-    }),
-    plain("28-before-3", sum_first),
-    plain("27-for-undefined-end-of-file", |f, a| {
-        instead(f, a, Place::EndOfFile, 27)
-    }),
-    plain("4-for-undefined-root", |f, a| instead(f, a, Place::Root, 4)),
-    plain("3-for-undefined-base", |f, a| {
-        if a.super_block == Err(27) && base_is_undefined(f) {
-            a.super_block = Err(3);
-        }
-    }),
-    plain("3-for-one-below-at-end-of-file", |f, a| {
-        refuse_one_below(f, a, Place::EndOfFile)
-    }),
-    plain("3-for-one-below-at-root", |f, a| {
-        refuse_one_below(f, a, Place::Root)
-    }),
-    plain("root-layout-present", |_, a| {
-        a.root.object.records.layout_address.present ^= 1
-    }),
-    plain("root-layout-undefined", |_, a| {
-        a.root.object.records.layout_address.address.undefined ^= 1
-    }),
-];
-
-// What other ports make of a number.
-
 fn number(number: u64) -> Address {
     Address {
         undefined: 0,
@@ -207,18 +127,18 @@ fn ones(value: u64, ones: u64) -> Address {
     }
 }
 
-fn never(value: u64, _: u8, _: u8) -> Address {
+pub fn never(value: u64, _: u8, _: u8) -> Address {
     number(value)
 }
 
-fn as_8_bytes(value: u64, offsets: u8, _: u8) -> Address {
+pub fn as_8_bytes(value: u64, offsets: u8, _: u8) -> Address {
     match value == all_ones(offsets) {
         true => number(u64::MAX),
         false => number(value),
     }
 }
 
-fn at_width_8(value: u64, _: u8, _: u8) -> Address {
+pub fn at_width_8(value: u64, _: u8, _: u8) -> Address {
     ones(value, u64::MAX)
 }
 
@@ -229,11 +149,11 @@ fn below_width_8(value: u64, offsets: u8, _: u8) -> Address {
     }
 }
 
-fn by_lengths(value: u64, _: u8, lengths: u8) -> Address {
+pub fn by_lengths(value: u64, _: u8, lengths: u8) -> Address {
     ones(value, all_ones(lengths))
 }
 
-fn one_below(value: u64, offsets: u8, _: u8) -> Address {
+pub fn one_below(value: u64, offsets: u8, _: u8) -> Address {
     match value == all_ones(offsets) - 1 {
         true => Address::UNDEFINED,
         false => Address::read(value, offsets),
@@ -247,7 +167,7 @@ fn in_4_bytes(value: u64, offsets: u8, _: u8) -> Address {
     }
 }
 
-fn with_number(value: u64, offsets: u8, _: u8) -> Address {
+pub fn with_number(value: u64, offsets: u8, _: u8) -> Address {
     Address {
         undefined: (value == all_ones(offsets)).into(),
         number: value,
@@ -262,7 +182,7 @@ fn zero_undefined(value: u64, offsets: u8, _: u8) -> Address {
 }
 
 /// The number that stands in the file.
-fn stored(address: Address, offsets: u8) -> u64 {
+pub fn stored(address: Address, offsets: u8) -> u64 {
     match address.undefined {
         0 => address.number,
         _ => all_ones(offsets),
@@ -295,8 +215,6 @@ fn addresses(header: &mut Header) -> Vec<&mut Address> {
     addresses.extend(present.map(|field| &mut field.address));
     addresses
 }
-
-// Addresses of headers.
 
 fn undefined_in_link_info(input: &Input, header: &mut Header) {
     let attribute = &mut header.records.attribute_info;
@@ -451,95 +369,5 @@ fn unread_size(input: &Input, outcome: Outcome) -> Outcome {
             Outcome::Read(Box::default())
         }
         other => other,
-    }
-}
-
-// Addresses of superblocks.
-
-fn of_extension(block: &mut SuperBlock, reads: Reads) {
-    let (offsets, lengths) = (block.size_of_offsets as u8, block.size_of_lengths as u8);
-    extension(block, |address| {
-        *address = reads(stored(*address, offsets), offsets, lengths);
-    });
-}
-
-fn is_undefined(answer: &PlainAnswer) -> bool {
-    let block = answer.super_block.as_ref();
-    block.is_ok_and(|block| block.superblock_extension_address == Some(Address::UNDEFINED))
-}
-
-/// The extension's case where the end-of-file address belongs.
-fn case_at_end(block: &mut SuperBlock) {
-    if let Some(address) = block.superblock_extension_address {
-        block.end_of_file_address = address.undefined;
-    }
-}
-
-/// The seven words of a superblock without the extension's case, read as eight.
-fn moved(block: &mut SuperBlock) {
-    let offsets = block.size_of_offsets as u8;
-    let (end, root) = (
-        block.end_of_file_address,
-        block.root_group_object_header_address,
-    );
-    extension(block, |address| {
-        *address = Address {
-            undefined: stored(*address, offsets),
-            number: end,
-        };
-    });
-    block.end_of_file_address = root;
-    block.root_group_object_header_address = 0;
-}
-
-/// Whether a superblock that is refused with 3 is so for an undefined address at a place.
-fn is_refused_for(file: &[u8], answer: &PlainAnswer, place: Place) -> bool {
-    let Some(block) = rust_super_block(&as_version_2(file)) else {
-        return false;
-    };
-    let addresses = seen(file, block.size_of_offsets);
-    let mut undefined = addresses.iter().filter(|seen| seen.is_undefined());
-    answer.super_block == Err(3) && undefined.any(|seen| seen.place == place)
-}
-
-/// Reads as the Rust does what is refused for an undefined address.
-fn as_rust(file: &[u8], answer: &mut PlainAnswer, place: Place) {
-    if is_refused_for(file, answer, place) {
-        answer.super_block = rust_super_block(&as_version_2(file)).ok_or(3);
-    }
-}
-
-/// Another number where a superblock is refused for an undefined address.
-fn instead(file: &[u8], answer: &mut PlainAnswer, place: Place, number: u64) {
-    if is_refused_for(file, answer, place) {
-        answer.super_block = Err(number);
-    }
-}
-
-/// The sum tested before the addresses.
-fn sum_first(file: &[u8], answer: &mut PlainAnswer) {
-    let is_false = super_block(file).is_some_and(|closing| !closing.holds(file));
-    let refused = [Place::EndOfFile, Place::Root]
-        .into_iter()
-        .any(|place| is_refused_for(file, answer, place));
-    if is_false && refused {
-        answer.super_block = Err(CHECKSUM);
-    }
-}
-
-fn base_is_undefined(file: &[u8]) -> bool {
-    let width = file[VERSION + 1].into();
-    let base = file.get(address(0, width)..address(1, width));
-    base.is_some_and(|base| base.iter().all(|byte| *byte == 255))
-}
-
-fn refuse_one_below(file: &[u8], answer: &mut PlainAnswer, place: Place) {
-    let Ok(block) = &answer.super_block else {
-        return;
-    };
-    let addresses = seen(file, block.size_of_offsets);
-    let mut others = addresses.iter().filter(|seen| !seen.is_undefined());
-    if others.any(|seen| seen.place == place) {
-        refuse(answer, 3);
     }
 }

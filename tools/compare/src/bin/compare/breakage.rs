@@ -7,7 +7,8 @@ use sides::input::Input;
 use sides::port::{Outcome, PlainAnswer};
 use sides::rust::{self, published};
 
-use crate::address_breakage::{ADDRESSES, PLAIN_ADDRESSES};
+use crate::address_breakage::ADDRESSES;
+use crate::plain_address_breakage::PLAIN_ADDRESSES;
 use crate::plain_breakage::PLAIN;
 use crate::sum_breakage::SUMS;
 

@@ -7,6 +7,7 @@ mod breakage;
 mod counts;
 mod features;
 mod judge;
+mod plain_address_breakage;
 mod plain_breakage;
 mod plain_judge;
 mod plain_run;

@@ -14,7 +14,7 @@ use crate::judge::CHECKSUM;
 
 type Plain = fn(&[u8], &mut PlainAnswer);
 
-const fn breakage(name: &'static str, change: Plain) -> Breakage {
+pub const fn breakage(name: &'static str, change: Plain) -> Breakage {
     Breakage {
         name,
         change: Change::Plain(change),
