@@ -51,7 +51,7 @@ extern "C" {
 enum dowringaf_refusal {
     DOWRINGAF_WIDTH = 1,                   /* a width that is not 2 to 8 */
     DOWRINGAF_FILE_SIZE = 2,               /* a file above 2,147,483,648 bytes; for the listing, above 65,536 */
-    DOWRINGAF_SHORT = 3,                   /* a needed byte lies past the file; an undefined end-of-file or root */
+    DOWRINGAF_SHORT = 3,                   /* a needed byte lies past the file; of a superblock, also an undefined end-of-file or root address */
     DOWRINGAF_SIGNATURE = 4,               /* not OHDR */
     DOWRINGAF_VERSION = 5,                 /* the header's version */
     DOWRINGAF_HEADER_FLAGS = 6,            /* bit 4 of the header's flags */

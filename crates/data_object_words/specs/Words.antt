@@ -72,13 +72,13 @@ abbrev pub presentAddress : OptionAddress → ℕ
 presentAddress optionAddresses.None = 0
 presentAddress (optionAddresses.Some a) = 1
 
-abbrev pub addressIn : OptionAddress → Address
-addressIn optionAddresses.None = addresses.Number 0
-addressIn (optionAddresses.Some a) = a
+abbrev pub addressOrZero : OptionAddress → Address
+addressOrZero optionAddresses.None = addresses.Number 0
+addressOrZero (optionAddresses.Some a) = a
 
 -- an address that a record has: 1 and its words; one that it lacks: zeros
 abbrev pub optionalAddressWords : OptionAddress → List ℕ
-optionalAddressWords field = presentAddress field ∷ addressWords (addressIn field)
+optionalAddressWords field = presentAddress field ∷ addressWords (addressOrZero field)
 
 -- the count and the four places of sizes
 abbrev pub dimensionsWords : Dimensions → List ℕ

@@ -16,7 +16,7 @@ ghost use Rattle.super_block.specs.Answers.{superBlockOut};
 ghost use Rattle.data_object_words.specs.Handed.{Handed};
 ghost use Rattle.data_object_root.specs.Root.{HandedRoot};
 ghost use Rattle.firmware.specs.Words.{foundRow, lookupOf};
-ghost use Rattle.firmware.specs.Blocks.{addressOf, blockOf};
+ghost use Rattle.firmware.specs.Blocks.{wordsOfAddress, blockOf};
 ghost use Rattle.firmware.specs.Handed.{HandedRow, HandedPart};
 
 // Bytes of the file, from a position on.
@@ -77,7 +77,7 @@ fn lookup_words(answer: LookupAnswer) -> LookupWords
 }
 
 fn address_words(address: Address) -> AddressWords
-    ensures { λ r. ⌜ r ≡ addressOf address ⌝ }
+    ensures { λ r. ⌜ r ≡ wordsOfAddress address ⌝ }
 {
     match address {
         Address::Undefined => AddressWords {

@@ -261,7 +261,7 @@ fn close_entry(file: &[u8], body_at: usize, size: u16, used: usize) -> Taken
 }
 
 // The offset is tested before the length is read; their sum must not pass the end-of-file address.
-// At an undefined offset no block is, however large that address.
+// An undefined offset has no block, however large the end-of-file address.
 pub fn message_continuation(file: &[u8], at: usize, state: State) -> ContinuationRead
     requires { ⌜ Widths state ⌝ }
     ensures { λ r. ⌜ continuationOut r ≡ read (now (file .entry)) (continuation state) at ⌝ }

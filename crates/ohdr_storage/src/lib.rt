@@ -167,7 +167,8 @@ fn part_of(address: usize, size: usize) -> Part
     }
 }
 
-// The data from a number on, which is an address where it lies in the file; there are none elsewhere.
+// The data at an address between 0 and end-of-file; at any other there are none. The position stays
+// where it is.
 fn data_from(file: &[u8], at: usize, state: State, address: u64, size: usize) -> PartRead
     ensures { λ r. ⌜ partOut r ≡ read (now (file .entry)) (dataFrom state size address) at ⌝ }
 {
@@ -186,7 +187,7 @@ fn data_from(file: &[u8], at: usize, state: State, address: u64, size: usize) ->
     PartRead::Read(part_of(address as usize, size), at)
 }
 
-// The data at an address; none at the undefined one. The position stays where it is.
+// The data at an address; at the undefined one there are none.
 fn raw_data(file: &[u8], at: usize, state: State, address: Address, size: usize) -> PartRead
     ensures { λ r. ⌜ partOut r ≡ read (now (file .entry)) (rawData state size address) at ⌝ }
 {

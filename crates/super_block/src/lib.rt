@@ -38,7 +38,7 @@ pub enum SuperBlockRead {
     Refused(Refusal),
 }
 
-// An address that may not be undefined. One that is counts as short.
+// An address that may not be undefined: an undefined one is short.
 fn defined_address(file: &[u8], at: usize, size: usize) -> ReadU64
     requires { ⌜ size ≤ 8 ⌝ }
     ensures { λ r. ⌜ u64Out r ≡ read (now (file .entry)) (definedAddress size 3) at ⌝ }
