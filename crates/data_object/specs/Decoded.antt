@@ -9,11 +9,10 @@ use Rattle.records.specs.Refusals.{refusalNumber}
 use Rattle.records.specs.declared.Part.{Part}
 use Rattle.row.specs.Rows.{rowWords}
 use Rattle.row.specs.Clearing.{table}
-use Rattle.parser.specs.States.{fileLimit, Widths, stateFor}
 use Rattle.grammar.specs.Grammar.{Item}
 use Rattle.grammar.specs.Table.{messagesOf, messages, rowsOf}
-use Rattle.grammar.specs.Walk.{Went, reached, stopped, entryLimit, lent}
-use Rattle.data_object_header.specs.Headers.{HeaderReading, decode}
+use Rattle.grammar.specs.Walk.{Went, reached, stopped, lent}
+use Rattle.data_object_header.specs.Headers.{decode, Checkable}
 use Rattle.data_object_winners.specs.Wins.{Wins, defaults, winsOf}
 use Rattle.data_object.specs.declared.Answer.{Answer}
 use Rattle.data_object.specs.declared.Answer.the-variants as answers
@@ -46,10 +45,7 @@ module _ (file : List ℕ) (offsets lengths end at n : ℕ) where
 
   -- widths of 2 to 8 bytes, a file of at most 2,147,483,648 bytes, and a reading of at most 4,096 entries, with no more messages than rows
   pub record Readable (next : ℕ) (xs : List Item) : Type 0 where
-    pub widths : Widths (stateFor offsets lengths end)
-    pub small : length file ≤ fileLimit
-    pub reading : HeaderReading file (stateFor offsets lengths end) at next xs
-    pub few : length xs ≤ entryLimit
+    pub checkable : Checkable file offsets lengths end at next xs
     pub room : messages xs ≤ n / rowWords
 
   -- an accepted header: its reading, and what is handed back of it; the table holds its messages, one a row, in its order, then zeros

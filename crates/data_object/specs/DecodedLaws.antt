@@ -1,10 +1,10 @@
 -- What the ways out of decoding say, put together: the walk's items give the answer, the rows, the table and the records. Assumes nothing.
-use Prim.Native.Nat.{ℕ, _+_, _-_, _*_, _/_, _≤_}
+use Prim.Native.Nat.{ℕ, _-_, _*_, _/_, _≤_}
 use mathlib.Core.Path.{_≡_, refl, sym, ap, ap₂, _∙_}
 use mathlib.Core.List.{List, _++_}
 use native.Mathlib.Omega.{arith}
 use lib.ListN.{length, take, drop, replicate}
-use Rattle.format.specs.Format.{Format, found, read}
+use Rattle.format.specs.Format.{Format, found}
 use Rattle.format.specs.Laws.{never}
 use Rattle.records.specs.Refusals.{refusalNumber}
 use Rattle.records.specs.Defaults.{defaultDataSpace, defaultLinkInfo, defaultGroupInfo, defaultAttributeInfo, defaultDataType, defaultDataLayout}
@@ -13,28 +13,22 @@ use Rattle.row.specs.RowLaws.{written-read}
 use Rattle.row.specs.Rows.{rowWords, firstRows, encode}
 use Rattle.row.specs.Clearing.{table, cleared-rows}
 use Rattle.parser.specs.declared.State.{State}
-use Rattle.parser.specs.declared.NewState.the-variants as states
-use Rattle.parser.specs.States.{fileLimit, stateOf}
-use Rattle.parser.specs.StateLaws.{made, made-widths}
+use Rattle.parser.specs.States.{stateFor}
 use Rattle.grammar.specs.Grammar.{Item}
 use Rattle.grammar.specs.Table.{messagesOf, messages, rowsOf}
 use Rattle.grammar.specs.TableLaws.{length-rowsOf}
-use Rattle.grammar.specs.Walk.{Went, reached, stopped, Limits, lent}
-use Rattle.grammar.specs.WalkLaws.{first, fit-lent}
-use Rattle.grammar.specs.Filled.{Walked, grown, tell, untold, walkOn, filled-table}
+use Rattle.grammar.specs.Walk.{reached, stopped, lent}
+use Rattle.grammar.specs.Filled.{untold, filled-table}
 use Rattle.ohdr_info.specs.Info.{linkInfo, groupInfo, attributeInfo}
 use Rattle.ohdr_storage.specs.Storage.{dataLayout}
 use Rattle.ohdr_datatype.specs.DataTypes.{dataType, typeLevels}
 use Rattle.ohdr_dataspace.specs.DataSpaces.{dataSpace}
 use Rattle.ohdr_walk.specs.declared.Progress.{Progress}
 use Rattle.ohdr_walk.specs.Code.{walkedOf}
-use Rattle.ohdr_walk.specs.Sources.{source}
-use Rattle.data_object_header.specs.Answers.{fieldsOut}
-use Rattle.data_object_header.specs.declared.HeaderFields.{HeaderFields}
-use Rattle.data_object_header.specs.declared.FieldsRead.{FieldsRead}
-use Rattle.data_object_header.specs.declared.FieldsRead.the-variants as fields
-use Rattle.data_object_header.specs.Headers.{headerFields, HeaderReading, header}
-use Rattle.data_object_header.specs.HeaderLaws.{header-accepts, unread, walked, starts-after, starts-inside, size-small, goes-on, decode-complete}
+use Rattle.data_object_header.specs.Headers.{HeaderReading}
+use Rattle.data_object_header.specs.Passing.{passes-lent}
+use Rattle.data_object_messages.specs.Messages.{fresh, decodeOn}
+use Rattle.data_object_messages.specs.Laws.{Told, told}
 use Rattle.data_object_winners.specs.Wins.{Wins, defaults, winsOf}
 use Rattle.data_object_winners.specs.Winners.{lastIn, winner}
 use Rattle.data_object_winners.specs.WinnerLaws.{all-bodied, Won, won, space-won, type-won, link-won, group-won, info-won, layout-won}
@@ -42,29 +36,6 @@ use Rattle.data_object.specs.Decoded.{answerOut, counts, rowsIn, winsIn,
 use Rattle.data_object.specs.declared.Answer.{Answer}
 use Rattle.data_object.specs.declared.Answer.the-variants as answers
 use Rattle.data_object.specs.declared.DataObject.{DataObject}
-
--- a walk that has not begun
-abbrev fresh : List ℕ → Walked
-fresh t = record { entries = 0; rows = 0; table = t }
-
--- the limits of a table
-abbrev lentBy : List ℕ → Limits
-lentBy t = lent (length t / rowWords)
-
--- what a header gives, told as a state: its rows go into the table
-abbrev pub headerOn : List ℕ → State → ℕ → List ℕ → Went Walked
-headerOn file s at t = tell (fresh t) (header file s (lentBy t) at)
-
--- a header's fields, and then its messages
-module _ (file : List ℕ) (s : State) (at : ℕ) (t : List ℕ) {r : FieldsRead} (f : fieldsOut r ≡ read file headerFields at) where
-  pub fields-refused : {x : Refusal} → r ≡ fields.Refused x → stopped (refusalNumber x) 0 ≡ headerOn file s at t
-  fields-refused e = sym (ap (tell (fresh t)) (unread file s (lentBy t) at f e))
-
-  pub fields-read : {v : HeaderFields} {from : ℕ} → r ≡ fields.Read v from → walkOn (source file s (v .flags)) (lentBy t) at (from + v .size) from t ≡ headerOn file s at t
-  fields-read e = sym (ap (tell (fresh t)) (walked file s (lentBy t) at f e))
-
-  pub fields-bound : {v : HeaderFields} {from : ℕ} → r ≡ fields.Read v from → (at ≤ from) × (from ≤ length file) × (v .size ≤ 16777216)
-  fields-bound e = (starts-after file s (lentBy t) at f e, starts-inside file s (lentBy t) at f e, size-small file s (lentBy t) at f e)
 
 -- a refusal, no row, and the defaults
 pub record RejectedAs (x : Refusal) (r : DataObject) : Type 0 where
@@ -86,115 +57,78 @@ pub record Built (file t : List ℕ) (p : Progress) (s : State) (r : DataObject)
 pub wins≡ : {v w : Wins} → v .ds ≡ w .ds → v .dt ≡ w .dt → v .li ≡ w .li → v .gi ≡ w .gi → v .ai ≡ w .ai → v .layout ≡ w .layout → v ≡ w
 wins≡ a b c d e f = λ i. record { ds = a i; dt = b i; li = c i; gi = d i; ai = e i; layout = f i }
 
--- what a walk that was done over a table t says, which it leaves as u: its items, and what of them is told
-record Told (file : List ℕ) (s : State) (at : ℕ) (t : List ℕ) (p : Progress) (u : List ℕ) : Type 0 where
-  items : List Item
-  reading : HeaderReading file s at (p .at) items
-  few : length items ≤ 4096
-  room : messages items ≤ length t / rowWords
-  reaches : header file s (lentBy t) at ≡ reached items (p .at)
-  entries : p .entries ≡ length items
-  rows : p .rows ≡ messages items
-  filled : u ≡ encode (rowsOf items) ++ drop (length (rowsOf items) * rowWords) t
-
-module _ (file : List ℕ) (s : State) (at : ℕ) (t : List ℕ) (p : Progress) (u : List ℕ) (e : headerOn file s at t ≡ reached (walkedOf p u) (p .at)) where
-  told : Told file s at t p u
-  told =
-      let l = lentBy t in
-      let v = first (header file s l at) (λ xs q. reached (grown (fresh t) xs) q) e in
-      let c : v .next ≡ p .at = cc (v .then) in
-      let d : grown (fresh t) (v .value) ≡ walkedOf p u = cc (v .then) in
-      let i = v .first ∙ ap (reached (v .value)) c in
-      let r = header-accepts file s l at (p .at) (v .value) .0 i in
-      let f = fit-lent (length t / rowWords) (v .value) .0 (r .1) in
-      let n = length-rowsOf (v .value) in
-      record {
-        items = v .value;
-        reading = r .0;
-        few = f .0;
-        room = f .1;
-        reaches = i;
-        entries = omega (arith, ap (λ (x : Walked). x .entries) d);
-        rows = omega (arith, ap (λ (x : Walked). x .rows) d);
-        filled = sym (ap (λ (x : Walked). x .table) d) ∙ filled-table (v .value) t (omega (arith, f .1)) ∙ ap (λ (k : ℕ). encode (rowsOf (v .value)) ++ drop (k * rowWords) t) (sym n);
-      }
-
-  pub rows-fit : length u ≡ length t → (p .rows * rowWords ≤ length u) × (p .rows ≤ length u / rowWords)
-  rows-fit k = (omega (arith, told .rows, told .room), omega (arith, told .rows, told .room))
+same-answer : (xs ys : List Item) (p q : ℕ) → reached xs p ≡ reached ys q → answers.Read p (length xs) ≡ answers.Read q (length ys)
+same-answer xs ys p q e =
+    let a : p ≡ q = cc in
+    let b : xs ≡ ys = cc in
+    λ i. answers.Read (a i) (length (b i))
 
 module _ (file : List ℕ) (offsets lengths end at n : ℕ) where
   -- whatever has a reading within the limits is found
   pub complete : (next : ℕ) (xs : List Item) → Readable file offsets lengths end at n next xs → decoded file offsets lengths end at n ≡ reached xs next
-  complete next xs r =
-      decode-complete offsets lengths end file at (lent (n / rowWords)) next xs (r .widths) (r .small) (r .reading) (fit-lent (n / rowWords) xs .1 (r .few, r .room))
+  complete next xs r = passes-lent file offsets lengths end at (n / rowWords) next xs .1 (r .checkable, r .room)
 
   -- a refused header
-  pub rejected-decoded : (x : Refusal) (k : ℕ) (r : DataObject) (t : List ℕ) → decoded file offsets lengths end at n ≡ stopped (refusalNumber x) k → RejectedAs x r → t ≡ replicate n 0
-      → Decoded file offsets lengths end at n r t
-  rejected-decoded x k r t e b z =
+  pub rejected-decoded : (x : Refusal) (r : DataObject) (t u : List ℕ) (k : ℕ) → stopped (refusalNumber x) k ≡ decodeOn file offsets lengths end at (lent (n / rowWords)) t → RejectedAs x r → u ≡ replicate n 0
+      → Decoded file offsets lengths end at n r u
+  rejected-decoded x r t u k e b z =
       record {
-        answer = ap answerOut (b .answer) ∙ sym (ap counts e);
-        rows = b .rows ∙ sym (ap rowsIn e);
+        answer = ap answerOut (b .answer) ∙ sym (ap counts d);
+        rows = b .rows ∙ sym (ap rowsIn d);
         meant = rw (b .answer) (record { none = none; rows = b .rows; table = z; records = b .records });
         accepts = λ next xs y. absurd (none next xs y);
       }
     where
+      d : decoded file offsets lengths end at n ≡ stopped (refusalNumber x) k
+      d = untold (fresh t) (decoded file offsets lengths end at n) (sym e)
+
       none : (next : ℕ) (xs : List Item) → Readable file offsets lengths end at n next xs → ⊥
-      none next xs y = never (sym (ap counts e) ∙ ap counts (complete next xs y))
+      none next xs y = never (sym (ap counts d) ∙ ap counts (complete next xs y))
 
-  -- a walk that was refused
-  module _ {s : State} (m : stateOf offsets lengths end ≡ states.Made s) (small : length file ≤ fileLimit) (t : List ℕ) (l : length t ≡ n) where
-    same-limits : decoded file offsets lengths end at n ≡ header file s (lentBy t) at
-    same-limits = goes-on offsets lengths end file at (lent (n / rowWords)) m small ∙ ap (λ (k : ℕ). header file s (lent (k / rowWords)) at) (sym l)
+  -- a walk that was done over a table t of n words, which it leaves as u
+  module _ (t : List ℕ) (l : length t ≡ n) (p : Progress) (u : List ℕ) (e : reached (walkedOf p u) (p .at) ≡ decodeOn file offsets lengths end at (lent (n / rowWords)) t) where
+    w : Told file offsets lengths end at (lent (n / rowWords)) t p u
+    w = told file offsets lengths end at (lent (n / rowWords)) t p u e
 
-    pub walk-refused : (x : Refusal) (k : ℕ) → headerOn file s at t ≡ stopped (refusalNumber x) k → decoded file offsets lengths end at n ≡ stopped (refusalNumber x) k
-    walk-refused x k e = same-limits ∙ untold (fresh t) (header file s (lentBy t) at) e
+    readable : Readable file offsets lengths end at n (p .at) (w .items)
+    readable = let r = passes-lent file offsets lengths end at (n / rowWords) (p .at) (w .items) .0 (w .reaches) in record { checkable = r .0; room = r .1 }
 
-    -- a walk that was done, its table cleared behind its rows
-    module _ (p : Progress) (u v : List ℕ) (k : length u ≡ n) (c : v ≡ take (p .rows * rowWords) u ++ replicate (length u - p .rows * rowWords) 0)
-        (e : headerOn file s at t ≡ reached (walkedOf p u) (p .at)) where
-      w : Told file s at t p u
-      w = told file s at t p u e
+    pub rows-fit : (p .rows * rowWords ≤ n) × (p .rows ≤ n / rowWords)
+    rows-fit = (omega (arith, w .rows, readable .room), omega (arith, w .rows, readable .room))
 
+    filled : u ≡ encode (rowsOf (w .items)) ++ drop (length (rowsOf (w .items)) * rowWords) t
+    filled =
+        w .filled ∙ filled-table (w .items) t (omega (arith, readable .room))
+        ∙ ap (λ (k : ℕ). encode (rowsOf (w .items)) ++ drop (k * rowWords) t) (sym (length-rowsOf (w .items)))
+
+    -- its table cleared behind its rows, and the records read there
+    module _ {s : State} (m : s ≡ stateFor offsets lengths end) (v : List ℕ) (k : length u ≡ n) (c : v ≡ take (p .rows * rowWords) u ++ replicate (length u - p .rows * rowWords) 0) where
       cleared : v ≡ table n (rowsOf (w .items))
-      cleared = c ∙ cleared-rows (rowsOf (w .items)) t u (p .rows) n (w .rows ∙ sym (length-rowsOf (w .items))) k (w .filled)
+      cleared = c ∙ cleared-rows (rowsOf (w .items)) t u (p .rows) n (w .rows ∙ sym (length-rowsOf (w .items))) k filled
+
+      reading : HeaderReading file s at (p .at) (w .items)
+      reading = rw m (readable .checkable .reading)
 
       -- a record that is read at the last body of its type is the one that wins
       field : {A : Type 0} {type : ℕ} {F : Format A} {a₀ : A} {f : Wins → A} → Won file s type F a₀ f → f defaults ≡ a₀
           → winner file F a₀ (lastIn v type (p .rows)) ≡ f (winsOf (messagesOf (w .items)))
       field {type = type} {F = F} {a₀ = a₀} x d =
           ap₂ (λ (y : List ℕ) (j : ℕ). winner file F a₀ (lastIn y type j)) cleared (w .rows)
-          ∙ won file s x d (messagesOf (w .items)) (all-bodied file s (w .reading)) (replicate (n - length (rowsOf (w .items)) * rowWords) 0)
+          ∙ won file s x d (messagesOf (w .items)) (all-bodied file s reading) (replicate (n - length (rowsOf (w .items)) * rowWords) 0)
 
       records : (r : DataObject) → Built file v p s r → winsIn r ≡ winsOf (messagesOf (w .items))
       records r b =
           wins≡ (b .ds ∙ field (space-won file s) refl) (b .dt ∙ field (type-won file s) refl) (b .li ∙ field (link-won file s) refl)
           (b .gi ∙ field (group-won file s) refl) (b .ai ∙ field (info-won file s) refl) (b .layout ∙ field (layout-won file s) refl)
 
-      readable : Readable file offsets lengths end at n (p .at) (w .items)
-      readable = record {
-        widths = rw (sym (made offsets lengths end m .1)) (made-widths offsets lengths end s m);
-        small = small;
-        reading = rw (sym (made offsets lengths end m .1)) (w .reading);
-        few = w .few;
-        room = omega (arith, w .room);
-      }
-
       pub built-decoded : (r : DataObject) → Built file v p s r → Decoded file offsets lengths end at n r v
       built-decoded r b =
-          let d = same-limits ∙ w .reaches in
           record {
-            answer = ap answerOut (b .answer) ∙ ap (λ (k : ℕ). found k (p .at)) (w .entries) ∙ sym (ap counts d);
-            rows = b .rows ∙ w .rows ∙ sym (ap rowsIn d);
+            answer = ap answerOut (b .answer) ∙ ap (λ (k : ℕ). found k (p .at)) (w .entries) ∙ sym (ap counts (w .reaches));
+            rows = b .rows ∙ w .rows ∙ sym (ap rowsIn (w .reaches));
             meant = rw (b .answer) (record { items = w .items; readable = readable; entries = w .entries; rows = b .rows ∙ w .rows; table = cleared; records = records r b });
-            accepts = λ next xs y. b .answer ∙ same next xs (sym d ∙ complete next xs y);
+            accepts = λ next xs y. b .answer ∙ ap (answers.Read (p .at)) (w .entries) ∙ same-answer (w .items) xs (p .at) next (sym (w .reaches) ∙ complete next xs y);
           }
-        where
-          same : (next : ℕ) (xs : List Item) → reached (w .items) (p .at) ≡ reached xs next → answers.Read (p .at) (p .entries) ≡ answers.Read next (length xs)
-          same next xs y =
-              let a : p .at ≡ next = cc in
-              let b : w .items ≡ xs = cc in
-              rw (a, w .entries, b)
 
   -- the rows that are filled are in the table
   pub rows-room : (r : DataObject) (t : List ℕ) → Decoded file offsets lengths end at n r t → r .rows ≤ n / rowWords

@@ -24,7 +24,7 @@ answer-unique (answers.Refused x) (answers.Refused y) e = ap answers.Refused (re
 module _ (file : List ℕ) (offsets lengths end at n : ℕ) where
   meant-unique : (a b : Answer) (o o′ : DataObject) {t t′ : List ℕ} → Meant file offsets lengths end at n a o t → Meant file offsets lengths end at n b o′ t′ → (winsIn o ≡ winsIn o′) × (t ≡ t′)
   meant-unique (answers.Read p k) (answers.Read q l) o o′ m m′ =
-      let same = header-unique file (stateFor offsets lengths end) at p q (m .items) (m′ .items) (m .readable .reading) (m′ .readable .reading) in (
+      let same = header-unique file (stateFor offsets lengths end) at p q (m .items) (m′ .items) (m .readable .checkable .reading) (m′ .readable .checkable .reading) in (
         m .records ∙ ap (λ (xs : List Item). winsOf (messagesOf xs)) (same .1) ∙ sym (m′ .records),
         m .table ∙ ap (λ (xs : List Item). table n (rowsOf xs)) (same .1) ∙ sym (m′ .table),
       )

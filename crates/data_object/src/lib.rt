@@ -1,7 +1,7 @@
 // Decoding an object header into a lent table (data_object.rs, data_object and
 // build_data_object_from_messages), and the bytes of its data.
-use data_object_header::FieldsRead;
-use data_object_header::header_fields;
+use data_object_messages::Messages;
+use data_object_messages::data_object_messages;
 use data_object_winners::last_rows;
 use data_object_winners::winning_attribute_info;
 use data_object_winners::winning_data_layout;
@@ -10,13 +10,8 @@ use data_object_winners::winning_data_type;
 use data_object_winners::winning_group_info;
 use data_object_winners::winning_link_info;
 use ohdr_storage::contiguous_bytes;
-use ohdr_walk::Header;
 use ohdr_walk::Limits;
 use ohdr_walk::Progress;
-use ohdr_walk::Walk;
-use ohdr_walk::collect_all_messages;
-use parser::FILE_LIMIT;
-use parser::NewState;
 use parser::State;
 use records::AttributeInfo;
 use records::DataLayout;
@@ -32,10 +27,9 @@ ghost use mathlib.Core.Path.{_≡_};
 ghost use Prim.Native.Nat.{_/_, _≤_};
 ghost use lib.ListN.{length};
 ghost use Rattle.row.specs.Rows.{rowWords};
-ghost use Rattle.parser.specs.States.{fileLimit, Widths};
-ghost use Rattle.ohdr_walk.specs.Code.{walkOut};
+ghost use Rattle.parser.specs.States.{Widths};
 ghost use Rattle.data_object.specs.Decoded.{Decoded, bytesOf};
-ghost use Rattle.data_object.specs.DecodedLaws.{Built, RejectedAs, headerOn};
+ghost use Rattle.data_object.specs.DecodedLaws.{Built, RejectedAs};
 
 // The next position and the entries read, or why the header is refused.
 pub enum Answer {
@@ -75,29 +69,6 @@ fn rejected(refusal: Refusal) -> DataObject
         ai,
         gi,
         layout,
-    }
-}
-
-// The header's fields, and then its messages.
-fn header_messages(file: &[u8], table: &mut [u64], position: usize, state: State) -> Walk
-    requires { ⌜ Widths state × (length (now file) ≤ fileLimit) ⌝ }
-    ensures { λ r. ⌜ walkOut r (now (table .exit)) ≡ headerOn (now (file .entry)) state position (now (table .entry)) ⌝ }
-{
-    match header_fields(file, position) {
-        FieldsRead::Refused(r) => Walk::Refused(r, 0),
-        FieldsRead::Read(fields, start) => {
-            let end = start + fields.size as usize;
-            let header = Header {
-                state,
-                flags: fields.flags,
-            };
-            let limits = Limits {
-                entries: 4096,
-                beyond: Refusal::Entries,
-                rows: rows_in(table),
-            };
-            collect_all_messages(file, table, header, limits, position, start, end)
-        }
     }
 }
 
@@ -144,23 +115,26 @@ pub fn data_object(
 ) -> DataObject
     ensures { λ r. ⌜ Decoded (now (file .entry)) «offset_width» «length_width» «end_of_file» position (length (now (table .entry))) r (now (table .exit)) ⌝ }
 {
-    let state = match State::new(offset_width, length_width, end_of_file) {
-        NewState::Made(s) => s,
-        NewState::Refused(r) => {
-            clear_behind(table, 0);
-            return rejected(r);
-        }
+    let limits = Limits {
+        entries: 4096,
+        beyond: Refusal::Entries,
+        rows: rows_in(table),
+        counts: false,
     };
-    if FILE_LIMIT < file.len() {
-        clear_behind(table, 0);
-        return rejected(Refusal::FileSize);
-    }
-    match header_messages(file, table, position as usize, state) {
-        Walk::Refused(r, _) => {
+    match data_object_messages(
+        file,
+        table,
+        position,
+        offset_width,
+        length_width,
+        end_of_file,
+        limits,
+    ) {
+        Messages::Refused(r, _) => {
             clear_behind(table, 0);
             rejected(r)
         }
-        Walk::Done(progress) => {
+        Messages::Read(progress, state) => {
             clear_behind(table, progress.rows);
             build_data_object_from_messages(file, table, progress, state)
         }

@@ -1,5 +1,5 @@
 -- IV.A.1.b, a version 2 object header: its fields, its reading, and what decoding it gives. Assumes nothing: these are definitions.
-use Prim.Native.Nat.{ℕ, _+_, _%_, _^_}
+use Prim.Native.Nat.{ℕ, _+_, _%_, _^_, _≤_}
 use mathlib.Core.Bool.{not, _&&_}
 use mathlib.Core.List.{List}
 use lib.ListN.{length}
@@ -7,9 +7,9 @@ use lib.Dec.{eqb, leb}
 use Rattle.format.specs.Bits.{bit}
 use Rattle.format.specs.Format.{Format, done, number, skip, bind, check, pick, signature, Stands, read}
 use Rattle.parser.specs.declared.State.{State}
-use Rattle.parser.specs.States.{fileLimit, widthAllowed, stateFor}
+use Rattle.parser.specs.States.{fileLimit, Widths, widthAllowed, stateFor}
 use Rattle.grammar.specs.Grammar.{Item, Reading}
-use Rattle.grammar.specs.Walk.{choose, Went, stopped, andThen, begun, Limits, walk}
+use Rattle.grammar.specs.Walk.{choose, Went, stopped, andThen, begun, Limits, entryLimit, walk}
 use Rattle.ohdr_walk.specs.Sources.{source}
 use Rattle.data_object_header.specs.declared.HeaderFields.{HeaderFields}
 
@@ -52,3 +52,11 @@ decode file offsets lengths end at l =
     choose (leb (length file) fileLimit) (λ _.
     header file (stateFor offsets lengths end) l at)
     (λ _. stopped 2 0)) (λ _. stopped 1 0)
+
+-- A header that has a reading, whatever table is lent: widths of 2 to 8 bytes, a file of at most 2,147,483,648 bytes, and a reading of at most 4,096
+-- entries.
+pub record Checkable (file : List ℕ) (offsets lengths end at next : ℕ) (xs : List Item) : Type 0 where
+  pub widths : Widths (stateFor offsets lengths end)
+  pub small : length file ≤ fileLimit
+  pub reading : HeaderReading file (stateFor offsets lengths end) at next xs
+  pub few : length xs ≤ entryLimit

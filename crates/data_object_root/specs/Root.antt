@@ -1,4 +1,4 @@
--- What is handed over of the root's header of a plain file. Assumes nothing: these are definitions.
+-- What is handed over of the root's header of a plain file, and what checking it yields. Assumes nothing: these are definitions.
 use Prim.Native.Nat.{ℕ}
 use mathlib.Core.Path.{_≡_}
 use mathlib.Core.List.{List, _∷_}
@@ -6,6 +6,8 @@ use lib.ListN.{replicate}
 use Rattle.format.specs.Format.{Out, found, refused}
 use Rattle.super_block.specs.declared.SuperBlock.{SuperBlock}
 use Rattle.super_block.specs.SuperBlocks.{superBlockOf}
+use Rattle.data_object_check.specs.declared.CheckAnswer.{CheckAnswer}
+use Rattle.data_object_check.specs.Checked.{checkOut, Checked}
 use Rattle.data_object_words.specs.Handed.{Handed}
 
 -- the number of a refusal, and no other word
@@ -24,3 +26,13 @@ module _ (file : List ℕ) (n : ℕ) (t w : List ℕ) where
   -- with the file's own
   abbrev pub HandedRoot : Type 0
   HandedRoot = HandedBy (superBlockOf file)
+
+-- With a superblock: what checking the header at its root address yields, with its widths and its end-of-file address; where it is refused, its number.
+module _ (file : List ℕ) (a : CheckAnswer) where
+  abbrev pub CheckedBy : Out SuperBlock → Type 0
+  CheckedBy (found b q) = Checked file (b .«size_of_offsets») (b .«size_of_lengths») (b .«end_of_file_address») (b .«root_group_object_header_address») a
+  CheckedBy (refused r) = checkOut a ≡ refused r
+
+  -- with the file's own
+  abbrev pub CheckedRoot : Type 0
+  CheckedRoot = CheckedBy (superBlockOf file)

@@ -1,5 +1,7 @@
 // The root's object header of a plain file: where it lies, and with which widths it is read, stands
 // in the file's own superblock (parser.rs, parse, but for its test of the file's length).
+use data_object_check::CheckAnswer;
+use data_object_check::check_data_object;
 use data_object_words::header_words;
 use records::Refusal;
 use row::clear_behind;
@@ -8,7 +10,7 @@ use super_block::super_block;
 ghost use mathlib.Core.Path.{_≡_};
 ghost use lib.ListN.{length};
 ghost use Rattle.records.specs.Refusals.{refusalNumber};
-ghost use Rattle.data_object_root.specs.Root.{refusedWords, HandedRoot};
+ghost use Rattle.data_object_root.specs.Root.{refusedWords, HandedRoot, CheckedRoot};
 
 // The words of a file that is refused: the refusal's number, and nothing else.
 fn put_refusal(words: &mut [u64], refusal: Refusal)
@@ -37,6 +39,22 @@ pub fn root_words(file: &[u8], table: &mut [u64], words: &mut [u64; 63])
             block.end_of_file_address,
             table,
             words,
+        ),
+    }
+}
+
+// The root's object header, checked without a table.
+pub fn check_root(file: &[u8]) -> CheckAnswer
+    ensures { λ r. ⌜ CheckedRoot (now (file .entry)) r ⌝ }
+{
+    match super_block(file) {
+        SuperBlockRead::Refused(refusal) => CheckAnswer::Refused(refusal),
+        SuperBlockRead::Read(block, _) => check_data_object(
+            file,
+            block.root_group_object_header_address,
+            block.size_of_offsets as u64,
+            block.size_of_lengths as u64,
+            block.end_of_file_address,
         ),
     }
 }

@@ -1,4 +1,4 @@
--- What a lookup and a part are handed over as. Assumes nothing: these are definitions.
+-- What a lookup, a check and a part are handed over as. Assumes nothing: these are definitions.
 use Prim.Native.Nat.{ℕ, _+_, _≤_}
 use mathlib.Core.Path.{_≡_}
 use mathlib.Core.List.{List}
@@ -9,15 +9,23 @@ use Rattle.records.specs.declared.Part.{Part}
 use Rattle.data_object.specs.Decoded.{bytesOf}
 use Rattle.lookup.specs.declared.LookupAnswer.{LookupAnswer}
 use Rattle.lookup.specs.Lookup.{Looked}
+use Rattle.data_object_check.specs.declared.CheckAnswer.{CheckAnswer}
 use Rattle.firmware.specs.declared.PartWords.{PartWords}
 use Rattle.firmware.specs.declared.LookupWords.{LookupWords}
-use Rattle.firmware.specs.Words.{noPart, inWords, lookupOf}
+use Rattle.firmware.specs.declared.CheckWords.{CheckWords}
+use Rattle.firmware.specs.Words.{noPart, inWords, lookupOf, checkOf}
 
 -- the words of what a lookup yields
 pub record HandedRow (file table : List ℕ) (rows : ℕ) (name : List ℕ) (r : LookupWords) : Type 0 where
   pub answer : LookupAnswer
   pub looked : Looked file table rows name answer
   pub words : r ≡ lookupOf answer
+
+-- the words of what a check yields, of which P is said
+pub record HandedCheck (P : CheckAnswer → Type 0) (r : CheckWords) : Type 0 where
+  pub answer : CheckAnswer
+  pub checked : P answer
+  pub words : r ≡ checkOf answer
 
 -- the part itself where it lies in the file, and none where it leaves it; what is handed over lies in the file, and its bytes are the part's
 pub record HandedPart (file : List ℕ) (p : Part) (r : PartWords) : Type 0 where

@@ -1,16 +1,27 @@
--- At most one answer to a lookup, and one for a part, meets its contract, so that every word of it is decided by the input. Assumes nothing.
+-- At most one answer to a lookup, one to a check and one for a part meets its contract, so that every word of it is decided by the input. Assumes nothing.
 use Prim.Native.Nat.{ℕ}
 use mathlib.Core.Path.{_≡_, sym, ap, _∙_}
 use mathlib.Core.List.{List}
 use Rattle.records.specs.declared.Part.{Part}
 use Rattle.lookup.specs.Unique.{looked-unique}
+use Rattle.data_object_check.specs.Checked.{Checked}
+use Rattle.data_object_check.specs.CheckedLaws.{checked-unique}
+use Rattle.data_object_root.specs.Root.{CheckedRoot}
+use Rattle.data_object_root.specs.Laws.{checked-root-unique}
 use Rattle.firmware.specs.declared.LookupWords.{LookupWords}
+use Rattle.firmware.specs.declared.CheckWords.{CheckWords}
 use Rattle.firmware.specs.declared.PartWords.{PartWords}
-use Rattle.firmware.specs.Words.{lookupOf}
-use Rattle.firmware.specs.Handed.{HandedRow, HandedPart}
+use Rattle.firmware.specs.Words.{lookupOf, checkOf}
+use Rattle.firmware.specs.Handed.{HandedRow, HandedPart, HandedCheck}
 
 pub handed-row-unique : (file table : List ℕ) (rows : ℕ) (name : List ℕ) (r s : LookupWords) → HandedRow file table rows name r → HandedRow file table rows name s → r ≡ s
 handed-row-unique file table rows name r s h g = h .words ∙ ap lookupOf (looked-unique file table rows name (h .answer) (g .answer) (h .looked) (g .looked)) ∙ sym (g .words)
 
 pub handed-part-unique : (file : List ℕ) (p : Part) (r s : PartWords) → HandedPart file p r → HandedPart file p s → r ≡ s
 handed-part-unique file p r s h g = h .itself ∙ sym (g .itself)
+
+pub handed-check-unique : (file : List ℕ) (offsets lengths end at : ℕ) (r s : CheckWords) → HandedCheck (Checked file offsets lengths end at) r → HandedCheck (Checked file offsets lengths end at) s → r ≡ s
+handed-check-unique file offsets lengths end at r s h g = h .words ∙ ap checkOf (checked-unique file offsets lengths end at (h .answer) (g .answer) (h .checked) (g .checked)) ∙ sym (g .words)
+
+pub handed-root-check-unique : (file : List ℕ) (r s : CheckWords) → HandedCheck (CheckedRoot file) r → HandedCheck (CheckedRoot file) s → r ≡ s
+handed-root-check-unique file r s h g = h .words ∙ ap checkOf (checked-root-unique file (h .answer) (g .answer) (h .checked) (g .checked)) ∙ sym (g .words)

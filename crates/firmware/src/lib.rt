@@ -1,5 +1,8 @@
 // The project's operations for firmware: C functions on numbers and byte slices. None requires
 // anything of its caller.
+use data_object_check::CheckAnswer;
+use data_object_check::check_data_object;
+use data_object_root::check_root;
 use data_object_root::root_words;
 use data_object_words::header_words;
 use listing_text::list;
@@ -13,11 +16,12 @@ ghost use lib.ListN.{length, take, drop};
 ghost use Rattle.listing_text.specs.Listing.{listingOf, Counts};
 ghost use Rattle.super_block.specs.SuperBlocks.{superBlockOf};
 ghost use Rattle.super_block.specs.Answers.{superBlockOut};
+ghost use Rattle.data_object_check.specs.Checked.{Checked};
 ghost use Rattle.data_object_words.specs.Handed.{Handed};
-ghost use Rattle.data_object_root.specs.Root.{HandedRoot};
-ghost use Rattle.firmware.specs.Words.{foundRow, lookupOf};
+ghost use Rattle.data_object_root.specs.Root.{HandedRoot, CheckedRoot};
+ghost use Rattle.firmware.specs.Words.{foundRow, lookupOf, checkOf};
 ghost use Rattle.firmware.specs.Blocks.{wordsOfAddress, blockOf};
-ghost use Rattle.firmware.specs.Handed.{HandedRow, HandedPart};
+ghost use Rattle.firmware.specs.Handed.{HandedRow, HandedPart, HandedCheck};
 
 // Bytes of the file, from a position on.
 #[repr(C)]
@@ -53,6 +57,16 @@ pub struct LookupWords {
     pub row: u64,
 }
 
+// A check: 0 or the number of its refusal, and the figures of the header, which are 0 where it is
+// refused.
+#[repr(C)]
+pub struct CheckWords {
+    pub refused: u64,
+    pub next: u64,
+    pub entries: u64,
+    pub rows: u64,
+}
+
 fn found_row(refused: u64, found: u64, row: u64) -> LookupWords
     ensures { λ r. ⌜ r ≡ foundRow refused found row ⌝ }
 {
@@ -72,6 +86,28 @@ fn lookup_words(answer: LookupAnswer) -> LookupWords
         LookupAnswer::Refused(refusal) => {
             let number = refusal.number();
             found_row(number, 0, 0)
+        }
+    }
+}
+
+fn check_words(answer: CheckAnswer) -> CheckWords
+    ensures { λ r. ⌜ r ≡ checkOf answer ⌝ }
+{
+    match answer {
+        CheckAnswer::Passed(figures) => CheckWords {
+            refused: 0,
+            next: figures.next as u64,
+            entries: figures.entries as u64,
+            rows: figures.rows as u64,
+        },
+        CheckAnswer::Refused(refusal) => {
+            let number = refusal.number();
+            CheckWords {
+                refused: number,
+                next: 0,
+                entries: 0,
+                rows: 0,
+            }
         }
     }
 }
@@ -130,6 +166,30 @@ pub extern "C" fn dowringaf_super_block(file: &[u8]) -> SuperBlockWords
 {
     let answer = super_block(file);
     super_block_words(answer)
+}
+
+// The object header at a position, checked without a table.
+#[no_mangle]
+pub extern "C" fn dowringaf_check_data_object(
+    file: &[u8],
+    position: u64,
+    offset_width: u64,
+    length_width: u64,
+    end_of_file: u64,
+) -> CheckWords
+    ensures { λ r. ⌜ HandedCheck (Checked (now (file .entry)) «offset_width» «length_width» «end_of_file» position) r ⌝ }
+{
+    let answer = check_data_object(file, position, offset_width, length_width, end_of_file);
+    check_words(answer)
+}
+
+// The root's object header of a plain file, checked without a table.
+#[no_mangle]
+pub extern "C" fn dowringaf_check_root_object(file: &[u8]) -> CheckWords
+    ensures { λ r. ⌜ HandedCheck (CheckedRoot (now (file .entry))) r ⌝ }
+{
+    let answer = check_root(file);
+    check_words(answer)
 }
 
 // The root's object header of a plain file: its messages in the table, and its words in the order

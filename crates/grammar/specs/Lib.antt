@@ -4,6 +4,7 @@ pub mod Table
 pub mod Walk
 pub mod TableLaws
 pub mod WalkLaws
+pub mod Beside
 pub mod Steps
 pub mod Sound
 pub mod Complete

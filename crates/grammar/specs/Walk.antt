@@ -56,6 +56,10 @@ entryLimit = 4096
 abbrev pub lent : ℕ → Limits
 lent rows = record { entries = entryLimit; beyond = 23; fits = λ i. ltb i rows }
 
+-- and without a table: a message needs no row
+abbrev pub withoutTable : Limits
+withoutTable = record { entries = entryLimit; beyond = 23; fits = λ _. true }
+
 -- no entry begun, no row taken
 abbrev pub start : Count
 start = record { entries = 0; rows = 0 }

@@ -12,7 +12,7 @@ use Rattle.format.specs.Format.{Out, found, refused}
 use Rattle.grammar.specs.Grammar.{Item}
 use Rattle.grammar.specs.Table.{messages}
 use Rattle.grammar.specs.TableLaws.{messages-append}
-use Rattle.grammar.specs.Walk.{choose, Went, reached, stopped, andThen, begun, Count, counted, Limits, entryLimit, lent, start}
+use Rattle.grammar.specs.Walk.{choose, Went, reached, stopped, andThen, begun, Count, counted, Limits, entryLimit, lent, withoutTable, start}
 
 pub choose-yes : {A : Type 0} {b : Bool} (f g : Unit {0} → A) → b ≡ true → choose b f g ≡ f tt
 choose-yes f g e = ap (λ x. choose x f g) e
@@ -91,3 +91,7 @@ rows-below n (suc k) xs e f = let h = ltb-true k n (f .room k (omega arith) (ome
 
 pub fit-lent : (n : ℕ) (xs : List Item) → Fit (lent n) start xs ↔ ((length xs ≤ entryLimit) × (messages xs ≤ n))
 fit-lent n xs = (λ f. (omega (arith, f .few), rows-below n (messages xs) xs refl f), λ h. record { few = omega (arith, h .0); room = λ i a c. lt-ltb i n (omega (arith, h .1)) })
+
+-- what fits without a table
+pub fit-without : (xs : List Item) → Fit withoutTable start xs ↔ (length xs ≤ entryLimit)
+fit-without xs = (λ f. omega (arith, f .few), λ h. record { few = omega (arith, h); room = λ i a c. refl })

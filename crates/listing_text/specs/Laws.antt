@@ -1,12 +1,12 @@
 -- Laws of the listing. Assumes nothing.
-use Prim.Native.Nat.{ℕ, zero, suc, _+_, _*_, _/_, _≤_}
+use Prim.Native.Nat.{ℕ, zero, suc, _+_, _*_, _/_, _≤_, _<_}
 use mathlib.Core.Path.{_≡_, refl, sym, ap, _∙_}
 use mathlib.Core.List.{List, [], _∷_, _++_, append-assoc, append-nil}
 use native.Mathlib.Omega.{arith}
 use native.Mathlib.Numerals.{add-one}
 use lib.ListN.{length, getD, take, replicate, length-append, length-take, length-replicate}
 use borrow.Author.Tests.{ne-eqb}
-use Rattle.format.specs.Format.{refused}
+use Rattle.format.specs.Format.{found, refused}
 use Rattle.format.specs.Laws.{never}
 use Rattle.records.specs.Refusals.{refusalNumber}
 use Rattle.records.specs.RefusalLaws.{refusal-positive}
@@ -15,8 +15,14 @@ use Rattle.row.specs.declared.Row.{Row}
 use Rattle.row.specs.Rows.{rowWords, rowAt, firstRows}
 use Rattle.text.specs.Text.{Wrote}
 use Rattle.grammar.specs.Grammar.{Item}
-use Rattle.grammar.specs.Walk.{Went, reached, stopped, lent}
+use Rattle.grammar.specs.Table.{messages}
+use Rattle.grammar.specs.Walk.{Went, reached, stopped, lent, withoutTable}
 use Rattle.data_object_header.specs.Headers.{decode}
+use Rattle.data_object_header.specs.Passing.{decode-beside}
+use Rattle.data_object_check.specs.declared.Figures.{Figures}
+use Rattle.data_object_check.specs.declared.CheckAnswer.{CheckAnswer}
+use Rattle.data_object_check.specs.declared.CheckAnswer.the-variants as checks
+use Rattle.data_object_check.specs.Checked.{checkOut, figures, Checked}
 use Rattle.data_object.specs.declared.Answer.{Answer}
 use Rattle.data_object.specs.declared.Answer.the-variants as answers
 use Rattle.data_object.specs.declared.DataObject.{DataObject}
@@ -26,7 +32,7 @@ use Rattle.data_object_words.specs.Words.{wordsOf}
 use Rattle.data_object_words.specs.Laws.{rows-word}
 use Rattle.data_object_words.specs.Told.{rows-told}
 use Rattle.data_object_words.specs.Handed.{Handed}
-use Rattle.listing_text.specs.Listing.{lineOf, linesOf, refusedOf, resultOf, wordsText, headerText, Counts}
+use Rattle.listing_text.specs.Listing.{lineOf, linesOf, refusedOf, resultOf, wordsText, pairText, headerText, Counts}
 
 lines-append : (i : ℕ) (rs qs : List Row) → linesOf i (rs ++ qs) ≡ linesOf i rs ++ linesOf (i + length rs) qs
 lines-append i [] qs = let e : i + 0 ≡ i = omega arith in rw e
@@ -76,8 +82,7 @@ module _ (file : List ℕ) (offsets lengths end at : ℕ) (t w : List ℕ) (h : 
   words : length (replicate {A = ℕ} (512 * rowWords) 0) / rowWords ≡ 512
   words = omega (arith, length-replicate {A = ℕ} (512 * rowWords) 0)
 
-  pub lent-listed : wordsText w (firstRows t (getD w 3 0)) ≡ headerText file offsets lengths end at
-  unfolding headerText
+  pub lent-listed : wordsText w (firstRows t (getD w 3 0)) ≡ resultOf (decode file offsets lengths end at (lent 512))
   lent-listed =
       ap (λ (v : List ℕ). wordsText v (firstRows t (getD v 3 0))) (h .words)
       ∙ ap (λ (k : ℕ). wordsText (wordsOf (h .object)) (firstRows t k)) (rows-word (h .object))
@@ -86,3 +91,38 @@ module _ (file : List ℕ) (offsets lengths end at : ℕ) (t w : List ℕ) (h : 
 
   pub lent-rows : getD w 3 0 ≤ 512
   lent-rows = omega (arith, words, rows-told h)
+
+-- the pair: what the check answers decides which text it is
+module _ (file : List ℕ) (offsets lengths end at : ℕ) where
+  abbrev filled : Went (List Item)
+  filled = decode file offsets lengths end at (lent 512)
+
+  refusal-listed : (r : ℕ) (o : Went (List Item)) → refused r ≡ figures o → refusedOf r ≡ pairText o filled
+  unfolding pairText
+  refusal-listed r (reached xs next) e = never e
+  refusal-listed r (stopped k n) e = let z : r ≡ k = cc in ap refusedOf z
+
+  pass-listed : (f : Figures) (q : ℕ) (o : Went (List Item)) → found f q ≡ figures o → resultOf filled ≡ pairText o filled
+  unfolding pairText
+  pass-listed f q (reached xs next) e = refl
+  pass-listed f q (stopped k n) e = never (sym e)
+
+  module _ (a : CheckAnswer) (c : Checked file offsets lengths end at a) where
+    pub check-refused : (x : Refusal) → a ≡ checks.Refused x → refusedOf (refusalNumber x) ≡ headerText file offsets lengths end at
+    unfolding headerText
+    check-refused x e = refusal-listed (refusalNumber x) (decode file offsets lengths end at withoutTable) (sym (ap checkOut e) ∙ c .answer)
+
+    pub check-passed : (f : Figures) → a ≡ checks.Passed f → resultOf (decode file offsets lengths end at (lent 512)) ≡ headerText file offsets lengths end at
+    unfolding headerText
+    check-passed f e = pass-listed f (f .next) (decode file offsets lengths end at withoutTable) (sym (ap checkOut e) ∙ c .answer)
+
+  -- a header that passes its check has a line a row, unless it has more than 512
+  pub rows-listed : (xs : List Item) (next : ℕ) → decode file offsets lengths end at withoutTable ≡ reached xs next
+      → ((messages xs ≤ 512 → headerText file offsets lengths end at ≡ resultOf (reached xs next)) × (512 < messages xs → headerText file offsets lengths end at ≡ refusedOf 24))
+  unfolding headerText pairText resultOf
+  rows-listed xs next e =
+      let b = decode-beside file offsets lengths end at in
+      let n : b .taken ≡ 0 + messages xs = b .told xs next e in (
+        λ h. ap (λ (o : Went (List Item)). pairText o filled) e ∙ ap resultOf (b .enough 512 (omega arith) ∙ e),
+        λ h. ap (λ (o : Went (List Item)). pairText o filled) e ∙ ap resultOf (b .full 512 (omega arith) (omega arith) .1),
+      )

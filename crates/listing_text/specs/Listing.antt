@@ -12,7 +12,7 @@ use Rattle.records.specs.declared.OptionPart.the-variants as parts
 use Rattle.row.specs.declared.Row.{Row}
 use Rattle.grammar.specs.Grammar.{Item}
 use Rattle.grammar.specs.Table.{rowsOf}
-use Rattle.grammar.specs.Walk.{Went, reached, stopped, lent}
+use Rattle.grammar.specs.Walk.{Went, reached, stopped, lent, withoutTable}
 use Rattle.data_object_header.specs.Headers.{decode}
 use Rattle.super_block.specs.declared.SuperBlock.{SuperBlock}
 use Rattle.super_block.specs.SuperBlocks.{superBlockOf}
@@ -57,9 +57,14 @@ resultOf (stopped r n) = refusedOf r
 unfoldable pub wordsText : List ℕ → List Row → List ℕ
 wordsText w rs = pick (eqb (getD w 0 0) 0) (linesOf 0 rs ++ endOf (getD w 1 0) (getD w 2 0)) (refusedOf (getD w 0 0))
 
+-- check, and fill: a header that the check refuses has the check's number, and of any other it is what the filling gives
+unfoldable pub pairText : Went (List Item) → Went (List Item) → List ℕ
+pairText (stopped r n) filled = refusedOf r
+pairText (reached xs next) filled = resultOf filled
+
 -- the listing of the header at a position; 512 rows are lent
 unfoldable pub headerText : List ℕ → ℕ → ℕ → ℕ → ℕ → List ℕ
-headerText file offsets lengths end at = resultOf (decode file offsets lengths end at (lent 512))
+headerText file offsets lengths end at = pairText (decode file offsets lengths end at withoutTable) (decode file offsets lengths end at (lent 512))
 
 -- with a superblock: that of the header at its root address, with its widths and its end-of-file address; a refusal alone
 unfoldable pub rootText : List ℕ → Out SuperBlock → List ℕ

@@ -1,4 +1,6 @@
 // The listing: from a file, or a header in it, to the text that is written.
+use data_object_check::CheckAnswer;
+use data_object_check::check_data_object;
 use data_object_words::header_words;
 use records::OptionPart;
 use row::ROW_WORDS;
@@ -11,7 +13,9 @@ ghost use Prim.Native.Nat.{_+_, _*_, _/_, _≤_};
 ghost use lib.ListN.{length, getD, take, drop};
 ghost use Rattle.row.specs.Rows.{rowWords, firstRows};
 ghost use Rattle.text.specs.Text.{Wrote};
-ghost use Rattle.listing_text.specs.Listing.{headOf, placeOf, lineOf, linesOf, endOf, refusedOf, wordsText, headerText, listingOf, Counts};
+ghost use Rattle.grammar.specs.Walk.{lent};
+ghost use Rattle.data_object_header.specs.Headers.{decode};
+ghost use Rattle.listing_text.specs.Listing.{headOf, placeOf, lineOf, linesOf, endOf, refusedOf, resultOf, wordsText, headerText, listingOf, Counts};
 
 fn put_head(out: &mut [u8], at: usize, i: usize, row: Row) -> usize
     requires { ⌜ at + 105 ≤ length (now out) ⌝ }
@@ -99,10 +103,9 @@ fn put_result(out: &mut [u8], table: &[u64], words: &[u64; 63]) -> usize
     put_end(out, at, words[1], words[2])
 }
 
-// The listing of the header at a position, put at the start of out; the answer is its length, and
-// what stands behind it is left alone. A line has at most 189 bytes and the last at most 46, so out
-// has room for 512 rows.
-pub fn list_header(
+// The rows of the header at a position, filled into a table, as text. A line has at most 189 bytes
+// and the last at most 46, so out has room for 512 rows.
+fn fill_header(
     file: &[u8],
     position: u64,
     offset_width: u64,
@@ -110,9 +113,7 @@ pub fn list_header(
     end_of_file: u64,
     out: &mut [u8; 98304],
 ) -> usize
-    ensures { λ r. ⌜ Counts r (now (out .exit)) ⌝ }
-    ensures { λ r. ⌜ take r (now (out .exit)) ≡ headerText (now (file .entry)) «offset_width» «length_width» «end_of_file» position ⌝ }
-    ensures { λ r. ⌜ drop r (now (out .exit)) ≡ drop r (now (out .entry)) ⌝ }
+    ensures { λ r. ⌜ Wrote (now (out .entry)) 0 (now (out .exit)) r (resultOf (decode (now (file .entry)) «offset_width» «length_width» «end_of_file» position (lent 512))) ⌝ }
 {
     let mut table = [0u64; 512 * ROW_WORDS];
     let mut words = [0u64; 63];
@@ -126,6 +127,37 @@ pub fn list_header(
         &mut words,
     );
     put_result(out, &table, &words)
+}
+
+// The listing of the header at a position, put at the start of out; the answer is its length, and
+// what stands behind it is left alone. It is checked first, so that what is wrong behind the 512th
+// row has its own number.
+pub fn list_header(
+    file: &[u8],
+    position: u64,
+    offset_width: u64,
+    length_width: u64,
+    end_of_file: u64,
+    out: &mut [u8; 98304],
+) -> usize
+    ensures { λ r. ⌜ Counts r (now (out .exit)) ⌝ }
+    ensures { λ r. ⌜ take r (now (out .exit)) ≡ headerText (now (file .entry)) «offset_width» «length_width» «end_of_file» position ⌝ }
+    ensures { λ r. ⌜ drop r (now (out .exit)) ≡ drop r (now (out .entry)) ⌝ }
+{
+    match check_data_object(file, position, offset_width, length_width, end_of_file) {
+        CheckAnswer::Refused(refusal) => {
+            let number = refusal.number();
+            put_refused(out, number)
+        }
+        CheckAnswer::Passed(_) => fill_header(
+            file,
+            position,
+            offset_width,
+            length_width,
+            end_of_file,
+            out,
+        ),
+    }
 }
 
 // The listing of a plain file: that of its root's header, which its own superblock leads to.

@@ -1,11 +1,14 @@
 -- What the code's answers mean, and the definition of a walk at the entries of a header. Assumes nothing: these are definitions.
-use Prim.Native.Nat.{ℕ, _+_}
+use Prim.Native.Nat.{ℕ, _+_, _*_, _≤_}
+use mathlib.Core.Path.{_≡_}
+use mathlib.Core.Bool.{true}
 use mathlib.Core.List.{List}
+use lib.ListN.{length}
 use lib.Dec.{ltb}
-use Rattle.format.specs.Format.{read}
+use Rattle.format.specs.Format.{pick, read}
 use Rattle.records.specs.Refusals.{refusalNumber}
 use Rattle.row.specs.declared.Row.{Row}
-use Rattle.row.specs.Rows.{putRow}
+use Rattle.row.specs.Rows.{rowWords, putRow}
 use Rattle.grammar.specs.Grammar.{Source, blockEnd}
 use Rattle.grammar.specs.Walk.{choose, Went, reached, stopped, andThen, begun}
 use Rattle.grammar.specs.Walk as walks
@@ -22,7 +25,12 @@ abbrev pub sourceOf : List ℕ → Header → Source
 sourceOf file h = source file (h .state) (h .flags)
 
 abbrev pub limitsOf : Limits → walks.Limits
-limitsOf l = record { entries = l .entries; beyond = refusalNumber (l .beyond); fits = λ i. ltb i (l .rows) }
+limitsOf l = record { entries = l .entries; beyond = refusalNumber (l .beyond); fits = λ i. pick (l .counts) true (ltb i (l .rows)) }
+
+-- a table has the rows of these limits; where messages are counted alone, there is none
+pub record Lends (l : Limits) (t : List ℕ) : Type 0 where
+  pub room : l .rows * rowWords ≤ length t
+  pub none : l .counts ≡ true → length t ≡ 0
 
 abbrev pub walkedOf : Progress → List ℕ → Walked
 walkedOf p t = record { entries = p .entries; rows = p .rows; table = t }
@@ -35,7 +43,7 @@ walkOut (answers.Refused r n) t = stopped (refusalNumber r) n
 -- a message takes the next row; where there is none, 24
 abbrev pub rowTaken : Limits → Progress → Row → ℕ → List ℕ → Went Walked
 rowTaken l p r q t =
-    choose (ltb (p .rows) (l .rows)) (λ _. reached (record { entries = p .entries + 1; rows = p .rows + 1; table = putRow t (p .rows) r }) q) (λ _. stopped 24 (p .entries + 1))
+    choose (limitsOf l .fits (p .rows)) (λ _. reached (record { entries = p .entries + 1; rows = p .rows + 1; table = putRow t (p .rows) r }) q) (λ _. stopped 24 (p .entries + 1))
 
 -- a block from o to w, closed after a walk that came to p; reading resumes at q
 abbrev pub blockClosed : List ℕ → ℕ → ℕ → Progress → ℕ → List ℕ → Went Walked

@@ -1,5 +1,6 @@
 pub mod Sources
 pub mod Code
+pub mod Taking
 pub mod Closing
 pub mod Loop
 pub mod Entering

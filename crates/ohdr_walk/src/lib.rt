@@ -13,16 +13,15 @@ use row::Row;
 use row::put_row;
 ghost use mathlib.Core.Path.{_≡_};
 ghost use mathlib.Core.List.{List};
-ghost use Prim.Native.Nat.{ℕ, _+_, _-_, _*_, _≤_, _<_};
+ghost use Prim.Native.Nat.{ℕ, _+_, _-_, _≤_, _<_};
 ghost use lib.ListN.{length};
 ghost use Rattle.format.specs.Format.{read};
 ghost use Rattle.helpers.specs.Answers.{placeOut};
 ghost use Rattle.parser.specs.States.{Widths};
 ghost use Rattle.grammar.specs.Grammar.{blockEnd, headerEnd};
 ghost use Rattle.ohdr_entry.specs.Entries.{prefixSize};
-ghost use Rattle.row.specs.Rows.{rowWords};
 ghost use Rattle.lookup3.specs.Lookup3.{sumMatches};
-ghost use Rattle.ohdr_walk.specs.Code.{rowTaken, blockClosed, walkedOf, walkOut, entryOf, runOf, walkOf};
+ghost use Rattle.ohdr_walk.specs.Code.{Lends, rowTaken, blockClosed, walkedOf, walkOut, entryOf, runOf, walkOf};
 
 // What does not change while a header is walked: the state of the file, and the header's flags.
 pub struct Header {
@@ -30,11 +29,13 @@ pub struct Header {
     pub flags: u8,
 }
 
-// How many entries are allowed and what refuses the next, and how many rows there are.
+// How many entries are allowed and what refuses the next, how many rows there are, and whether the
+// messages beyond them are counted alone, as where there is no table, or refused.
 pub struct Limits {
     pub entries: usize,
     pub beyond: Refusal,
     pub rows: usize,
+    pub counts: bool,
 }
 
 // How far a walk has come: the next position, the rows taken, the entries begun.
@@ -59,20 +60,24 @@ pub fn message_prefix_size(flags: u8) -> usize
 
 // A message's words go into the next row, where there is one, and the walk goes on at `next`.
 fn take_row(table: &mut [u64], limits: Limits, from: Progress, row: Row, next: usize) -> Walk
-    requires { ⌜ (limits .rows * rowWords ≤ length (now table)) × (from .rows ≤ from .entries) × (from .entries < limits .entries) ⌝ }
+    requires { ⌜ Lends limits (now table) × (from .rows ≤ from .entries) × (from .entries < limits .entries) ⌝ }
     ensures { λ r. ⌜ walkOut r (now (table .exit)) ≡ rowTaken limits from row next (now (table .entry)) ⌝ }
 {
     let rows = from.rows;
     let begun = from.entries + 1;
-    if limits.rows <= rows {
-        return Walk::Refused(Refusal::Table, begun);
-    }
-    put_row(table, rows, row);
-    Walk::Done(Progress {
+    let taken = Progress {
         at: next,
         rows: rows + 1,
         entries: begun,
-    })
+    };
+    if rows < limits.rows {
+        put_row(table, rows, row);
+        return Walk::Done(taken);
+    }
+    if limits.counts {
+        return Walk::Done(taken);
+    }
+    Walk::Refused(Refusal::Table, begun)
 }
 
 // The bytes up to an end, if it is not yet reached.
@@ -148,6 +153,7 @@ fn again_limits(limits: Limits) -> Limits
         entries: limits.entries,
         beyond,
         rows: limits.rows,
+        counts: limits.counts,
     }
 }
 
@@ -161,7 +167,7 @@ fn message_entry(
     from: Progress,
     levels: usize,
 ) -> Walk
-    requires { ⌜ Widths (header .state) × (levels ≤ 25) × (from .rows ≤ from .entries) × (limits .rows * rowWords ≤ length (now table)) ⌝ }
+    requires { ⌜ Widths (header .state) × (levels ≤ 25) × (from .rows ≤ from .entries) × Lends limits (now table) ⌝ }
     ensures { λ r. ⌜ walkOut r (now (table .exit)) ≡ entryOf (now (file .entry)) header limits levels (from .at) (walkedOf from (now (table .entry))) ⌝ }
 {
     let beyond = limits.beyond;
@@ -214,7 +220,7 @@ fn message_block(
     end: usize,
     levels: usize,
 ) -> Walk
-    requires { ⌜ Widths (header .state) × (levels ≤ 25) × (from .rows ≤ from .entries) × (limits .rows * rowWords ≤ length (now table)) × (from .entries ≤ limits .entries) × (from .at ≤ length (now file)) ⌝ }
+    requires { ⌜ Widths (header .state) × (levels ≤ 25) × (from .rows ≤ from .entries) × Lends limits (now table) × (from .entries ≤ limits .entries) × (from .at ≤ length (now file)) ⌝ }
     ensures { λ r. ⌜ walkOut r (now (table .exit)) ≡ runOf (now (file .entry)) header limits levels end (from .at) (walkedOf from (now (table .entry))) ⌝ }
 {
     let prefix = message_prefix_size(header.flags);
@@ -242,7 +248,7 @@ pub fn collect_all_messages(
     at: usize,
     end: usize,
 ) -> Walk
-    requires { ⌜ Widths (header .state) × (limits .rows * rowWords ≤ length (now table)) × (at ≤ length (now file)) × (from ≤ end) ⌝ }
+    requires { ⌜ Widths (header .state) × Lends limits (now table) × (at ≤ length (now file)) × (from ≤ end) ⌝ }
     ensures { λ r. ⌜ walkOut r (now (table .exit)) ≡ walkOf (now (file .entry)) header limits from end at (now (table .entry)) ⌝ }
 {
     let first = Progress {

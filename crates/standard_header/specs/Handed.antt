@@ -44,16 +44,16 @@ module _ (file : List ℕ) (offsets lengths end at n longest : ℕ) where
   -- of every accepted header
   pub accepted-standard : 4095 ≤ longest → {after count : ℕ} {r : DataObject} {t : List ℕ} → Accepted file offsets lengths end at n after count r t → Standard after count r t
   accepted-standard enough {after} {count} {r} a =
-      let h : HeaderIs file state longest at after count (r .rows) (a .readable .reading .fields) (a .items) = rw (a .entries, a .rows) (reading-is file state longest enough (a .readable .reading)) in
+      let h : HeaderIs file state longest at after count (r .rows) (a .readable .checkable .reading .fields) (a .items) = rw (a .entries, a .rows) (reading-is file state longest enough (a .readable .checkable .reading)) in
       record {
         items = a .items;
         entry-count = a .entries;
         row-count = a .rows;
-        fields = a .readable .reading .fields;
+        fields = a .readable .checkable .reading .fields;
         header = h;
         rows = each-message file state longest (h .entries);
         table = a .table;
-        records = rw (a .records) (reading-wins file state longest enough (a .readable .reading));
+        records = rw (a .records) (reading-wins file state longest enough (a .readable .checkable .reading));
       }
 
   -- in the words of the call's contract

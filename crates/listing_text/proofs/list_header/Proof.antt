@@ -1,31 +1,43 @@
--- What the words and the rows tell is written, and it is the listing of the header.
+-- The check's refusal is written, or what the filling gives; which of them is the listing says the definition's own check.
 use mathlib.Core.Path.{_∙_}
-use Rattle.listing_text.specs.Laws.{wrote-counts, lent-listed, lent-rows}
+use Rattle.listing_text.specs.Laws.{wrote-counts, check-refused, check-passed}
 use borrow.Author.Needs.{needs}
 use Rattle.listing_text.proofs.list_header.Statement.{statement}
 use Rattle.listing_text.proofs.list_header.Tie as tie
 
-slice-aggregate-header-words : tie.Need-slice-aggregate-header-words
-slice-aggregate-header-words c = search needs
+check-data-object-requires : tie.Need-check-data-object-requires
+check-data-object-requires c κs = search needs
 
-header-words-requires : tie.Need-header-words-requires
-header-words-requires c κs = search needs
+enum-known-refusal : tie.Need-enum-known-refusal
+enum-known-refusal c = search needs
 
-slice-aggregate-put-result : tie.Need-slice-aggregate-put-result
-slice-aggregate-put-result c = search needs
+number-requires : tie.Need-number-requires
+number-requires c κs = search needs
 
-put-result-requires : tie.Need-put-result-requires
-put-result-requires c κs = let h = lent-rows _ _ _ _ _ _ _ (c .before .before .before .before .header-words .ensures) in (search needs, search needs)
+put-refused-requires : tie.Need-put-refused-requires
+put-refused-requires c κs = search needs
+
+enum-told : tie.Need-enum-told
+enum-told c = search needs
+
+fill-header-requires : tie.Need-fill-header-requires
+fill-header-requires c κs = search needs
 
 returns : tie.Need-returns
-returns c = let w = c .put-result .ensures in (wrote-counts w, (w .same ∙ lent-listed _ _ _ _ _ _ _ (c .before .before .before .before .before .header-words .ensures), w .behind))
+returns c = let a = (c .before .before .before .before .before .before .before .before .args) in let w = c .put-refused .ensures in (wrote-counts w, (w .same ∙ rw (c .before .before .number .ensures) (check-refused (a .file .now) (a .offset-width) (a .length-width) (a .end-of-file) (a .position) _ (c .before .before .before .before .before .before .check-data-object .ensures) (c .before .before .before .before .refusal .given .0 .0) (c .before .before .before .before .refusal .given .1)), w .behind))
+
+returns-2 : tie.Need-returns-2
+returns-2 c = let a = (c .before .before .before .before .before .before .args) in let w = c .fill-header .ensures in (wrote-counts w, (w .same ∙ check-passed (a .file .now) (a .offset-width) (a .length-width) (a .end-of-file) (a .position) _ (c .before .before .before .before .check-data-object .ensures) (c .before .before .enum-told .given .0 .0) (c .before .before .enum-told .given .1), w .behind))
 
 pub list-header-spec : {M : Type 1} → statement M
 list-header-spec =
     tie.close
     (tie.spec
-    slice-aggregate-header-words
-    header-words-requires
-    slice-aggregate-put-result
-    put-result-requires
-    returns)
+    check-data-object-requires
+    enum-known-refusal
+    number-requires
+    put-refused-requires
+    enum-told
+    fill-header-requires
+    returns
+    returns-2)

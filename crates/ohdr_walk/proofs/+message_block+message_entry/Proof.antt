@@ -4,6 +4,7 @@ use Prim.Native.Nat.{_+_, _-_, _*_}
 use Rattle.ohdr_walk.specs.Loop.{Along, ends, stops, goes, falls as shrinks}
 use Rattle.ohdr_walk.specs.Entering.{prefix-small, many, unread, row-taken, ranged, deep, unsigned, starts-inside, unrun, block-closed}
 use Rattle.ohdr_walk.specs.Code.{walkedOf, runOf}
+use Rattle.ohdr_walk.specs.Taking.{lends-on}
 use native.Mathlib.Omega.{arith}
 use mathlib.Core.Path.{refl, sym}
 use Prim.Native.Nat.{ℕ, _<_}
@@ -97,7 +98,7 @@ message-block-message-entry-requires : (t : ℕ) → message-block-lts.Need-mess
   message-entry-below t,
   message-entry.Post,
 ) (message-block-at t) message-block.Post message-block-Inv-loop message-block-μ-loop
-message-block-message-entry-requires t c κs = let p = c .before .before .before .before .before .before .before .pre .1 in (omega (arith, c .before .before .before .before .before .before .before .pre .0), (p .0, p .1, c .before .before .before .loop .inv .fewer, omega (arith, c .before .before .before .loop .inv .long, p .3)))
+message-block-message-entry-requires t c κs = let p = c .before .before .before .before .before .before .before .pre .1 in (omega (arith, c .before .before .before .before .before .before .before .pre .0), (p .0, p .1, c .before .before .before .loop .inv .fewer, lends-on (c .before .before .before .loop .inv .long) (p .3)))
 
 -- src/lib.rt:232:27
 message-block-enum-known-r : (t : ℕ) → message-block-lts.Need-enum-known-r (
