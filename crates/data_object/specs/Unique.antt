@@ -15,7 +15,7 @@ use Rattle.data_object.specs.declared.Answer.the-variants as answers
 use Rattle.data_object.specs.declared.DataObject.{DataObject}
 use Rattle.data_object.specs.Decoded.{answerOut, winsIn, Meant, Decoded}
 
-answer-unique : (a b : Answer) → answerOut a ≡ answerOut b → a ≡ b
+pub answer-unique : (a b : Answer) → answerOut a ≡ answerOut b → a ≡ b
 answer-unique (answers.Read p k) (answers.Read q l) e = cc
 answer-unique (answers.Read p k) (answers.Refused y) e = never (sym e)
 answer-unique (answers.Refused x) (answers.Read q l) e = never e

@@ -43,11 +43,11 @@ module _ (file : List ℕ) (offsets lengths end at : ℕ) where
     λ c. reaches (lent n) next xs (c .0) (fit-lent n xs .1 (c .0 .few, c .1)),
   )
 
-  pub decode-beside : Beside 0 0 (decode file offsets lengths end at withoutTable) (λ n. decode file offsets lengths end at (lent n))
+  pub decode-beside : Beside entryLimit 0 0 (decode file offsets lengths end at withoutTable) (λ n. decode file offsets lengths end at (lent n))
   unfolding decode header
   decode-beside =
       chosen (widthAllowed offsets && widthAllowed lengths) _ _ _ _
-      (chosen (leb (length file) fileLimit) _ _ _ _
-      (after-read 0 (read file headerFields at) _ _ (λ f from. walk-beside (source file (stateFor offsets lengths end) (f .flags)) entryLimit 23 at (from + f .size) from))
+      (λ _. chosen (leb (length file) fileLimit) _ _ _ _
+      (λ _. after-read 0 (read file headerFields at) _ _ (λ f from. walk-beside (source file (stateFor offsets lengths end) (f .flags)) entryLimit 23 at (from + f .size) from))
       both-stop)
       both-stop

@@ -2,3 +2,4 @@ pub mod Bounds
 pub mod Cases
 pub mod Checksums
 pub mod Lookups
+pub mod Joint

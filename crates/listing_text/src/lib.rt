@@ -146,8 +146,8 @@ pub fn list_header(
 {
     match check_data_object(file, position, offset_width, length_width, end_of_file) {
         CheckAnswer::Refused(refusal) => {
-            let number = refusal.number();
-            put_refused(out, number)
+            let check = refusal.number();
+            put_refused(out, check)
         }
         CheckAnswer::Passed(_) => fill_header(
             file,
