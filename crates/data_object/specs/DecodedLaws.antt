@@ -15,7 +15,7 @@ use Rattle.row.specs.Clearing.{table, cleared-rows}
 use Rattle.parser.specs.declared.State.{State}
 use Rattle.parser.specs.States.{stateFor}
 use Rattle.grammar.specs.Grammar.{Item}
-use Rattle.grammar.specs.Table.{messagesOf, messages, rowsOf}
+use Rattle.grammar.specs.Table.{messagesOf, rowsOf}
 use Rattle.grammar.specs.TableLaws.{length-rowsOf}
 use Rattle.grammar.specs.Walk.{reached, stopped, lent}
 use Rattle.grammar.specs.Filled.{untold, filled-table}

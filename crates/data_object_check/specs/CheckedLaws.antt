@@ -1,8 +1,7 @@
 -- What the ways out of a check say: the walk's items give the figures. A check has one answer. Assumes nothing.
 use Prim.Native.Nat.{ℕ}
-use mathlib.Core.Path.{_≡_, refl, sym, ap, _∙_}
+use mathlib.Core.Path.{_≡_, sym, ap, _∙_}
 use mathlib.Core.List.{List}
-use lib.ListN.{length}
 use Rattle.format.specs.Format.{found}
 use Rattle.format.specs.Laws.{never}
 use Rattle.records.specs.Refusals.{refusalNumber}

@@ -4,7 +4,6 @@ use data_object_messages::Messages;
 use data_object_messages::data_object_messages;
 use ohdr_walk::Limits;
 use records::Refusal;
-ghost use mathlib.Core.Path.{_≡_};
 ghost use Rattle.data_object_check.specs.Checked.{Checked};
 
 // The next position, the entries read, and the rows that the messages take.

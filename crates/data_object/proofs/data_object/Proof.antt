@@ -1,14 +1,11 @@
 -- A refusal clears the whole table; otherwise the rows are the walk's, and what is behind them is cleared.
-use Prim.Native.Nat.{ℕ, _/_}
+use Prim.Native.Nat.{ℕ}
 use mathlib.Core.Path.{_≡_, refl, sym, ap, _∙_, subst}
 use native.Mathlib.Omega.{arith}
 use lib.ListN.{length, replicate}
 use Rattle.helpers.specs.Facts.{met}
-use Rattle.row.specs.Rows.{rowWords}
 use Rattle.row.specs.Clearing.{cleared-all}
-use Rattle.grammar.specs.Walk.{lent}
-use Rattle.data_object_messages.specs.Messages.{messagesOut, decodeOn, StateRead}
-use Rattle.data_object_messages.specs.declared.Messages.{Messages}
+use Rattle.data_object_messages.specs.Messages.{messagesOut, StateRead}
 use Rattle.data_object.specs.DecodedLaws.{rows-fit, rejected-decoded, built-decoded}
 use borrow.Author.Needs.{needs}
 use Rattle.data_object.proofs.data_object.Statement.{statement}

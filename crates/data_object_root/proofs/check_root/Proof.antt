@@ -1,5 +1,5 @@
 -- By the superblock: its refusal is the answer, or the check of the header that it leads to.
-use mathlib.Core.Path.{sym, _∙_, refl}
+use mathlib.Core.Path.{refl}
 use borrow.Author.Needs.{needs}
 use Rattle.data_object_root.proofs.check_root.Statement.{statement}
 use Rattle.data_object_root.proofs.check_root.Tie as tie
