@@ -11,6 +11,8 @@ pub mod generate;
 mod hdf;
 mod hdf_mended;
 pub mod input;
+pub mod listing;
+pub mod pair;
 pub mod plain;
 pub mod port;
 pub mod random;

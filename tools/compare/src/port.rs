@@ -4,22 +4,20 @@
 use crate::address::Address;
 use crate::answer::{Header, Records, Row, SuperBlock, words};
 use crate::input::Input;
+use crate::pair::{ALL_ROWS, Figures, Filling, Pair, Sizes, TABLE_TOO_SMALL};
 
-const ROW_WORDS: usize = 10;
-/// Rows that are lent first: enough for most headers, and cleared quickly.
+pub const ROW_WORDS: usize = 10;
+/// Rows that are lent first: enough for most headers, and cleared quickly. Where they were too few,
+/// all are lent.
 const FEW_ROWS: usize = 64;
-/// Rows that are lent where those were too few: as many as entries can be read.
-const ALL_ROWS: usize = 4096;
-const TABLE_TOO_SMALL: u64 = 24;
+/// The bytes that the listing is lent.
+const LISTING: usize = 98_304;
 
 /// The words of dowringaf.h.
 #[repr(C)]
 #[derive(Clone, Debug, Default, PartialEq, Eq)]
 pub struct Object {
-    pub refused: u64,
-    pub next: u64,
-    pub entries: u64,
-    pub rows: u64,
+    pub figures: Figures,
     pub records: Records,
     pub data_position: u64,
     pub data_length: u64,
@@ -57,6 +55,23 @@ unsafe extern "C" {
         table_words: usize,
         object: *mut Object,
     );
+    fn dowringaf_check_data_object(
+        file: *const u8,
+        file_bytes: usize,
+        position: u64,
+        offset_width: u64,
+        length_width: u64,
+        end_of_file: u64,
+    ) -> Figures;
+    fn dowringaf_check_root_object(file: *const u8, file_bytes: usize) -> Figures;
+    fn dowringaf_list(file: *const u8, file_bytes: usize, out: *mut u8) -> usize;
+}
+
+/// What is read: a header from values that are given by hand, or the root of a plain file.
+#[derive(Clone, Copy)]
+enum Asked<'a> {
+    Header(&'a Input),
+    Root(&'a [u8]),
 }
 
 pub enum Outcome {
@@ -81,12 +96,21 @@ pub struct PlainAnswer {
     /// What it has to write: what the call by hand with the superblock's values wrote, or, where
     /// that is refused, its number and zeros.
     pub by_hand: Written,
+    /// The root's check, beside the root operation with other tables.
+    pub pair: Pair,
+    /// What the root's check has to answer: what the check by hand does, or, where the superblock is
+    /// refused, its number.
+    pub check_by_hand: Figures,
+    pub listing: Vec<u8>,
 }
 
-/// The port with the table and the object that it is lent.
+/// The port with the table, the object and the listing that it is lent.
 pub struct Port {
     table: Vec<u64>,
     object: Object,
+    /// What the first filling of an input wrote: the object, and the words of its rows.
+    first: (Object, Vec<u64>),
+    listing: Vec<u8>,
 }
 
 impl Default for Port {
@@ -101,6 +125,8 @@ impl Port {
         Port {
             table: vec![0; rows * ROW_WORDS],
             object: Object::default(),
+            first: (Object::default(), Vec::new()),
+            listing: Vec::new(),
         }
     }
 
@@ -108,38 +134,84 @@ impl Port {
     /// object come as the call before left them, and the table's words after the last row must be
     /// zero.
     pub fn answer(&mut self, input: &Input) -> Outcome {
-        let words = self.lend(&|port, words| port.call(input, words));
+        let words = self.lend(Asked::Header(input));
         outcome(&self.object, &self.table[..words], &input.file)
     }
 
+    /// The same, and the check of the input beside its fillings with other tables.
+    pub fn answers(&mut self, input: &Input, sizes: Sizes) -> (Outcome, Pair) {
+        let asked = Asked::Header(input);
+        let words = self.lend(asked);
+        let outcome = outcome(&self.object, &self.table[..words], &input.file);
+        (outcome, self.pair(asked, words, sizes))
+    }
+
     /// The port's answers for a plain file.
-    pub fn plain_answer(&mut self, file: &[u8]) -> PlainAnswer {
+    pub fn plain_answer(&mut self, file: &[u8], sizes: Sizes) -> PlainAnswer {
         let super_block = super_block(file);
-        let words = self.lend(&|port, words| port.call_root(file, words));
+        let asked = Asked::Root(file);
+        let words = self.lend(asked);
         let root = self.written(words);
-        let by_hand = match &super_block {
+        let pair = self.pair(asked, words, sizes);
+        let (by_hand, check_by_hand) = match &super_block {
             Ok(block) => {
-                self.call(&block.input(file), words);
-                self.written(words)
+                let input = block.input(file);
+                self.call(Asked::Header(&input), words);
+                (self.written(words), check(&input))
             }
-            Err(number) => Written::refused(*number, words),
+            Err(number) => (Written::refused(*number, words), Figures::refused(*number)),
         };
         PlainAnswer {
             super_block,
             root,
             by_hand,
+            pair,
+            check_by_hand,
+            listing: self.list(file),
         }
     }
 
     /// A call with few rows, and where those do not do with all. Answers the words of the last.
-    fn lend(&mut self, call: &dyn Fn(&mut Port, usize)) -> usize {
+    fn lend(&mut self, asked: Asked) -> usize {
         let few = self.table.len().min(FEW_ROWS * ROW_WORDS);
-        call(self, few);
-        if self.object.refused != TABLE_TOO_SMALL {
+        self.call(asked, few);
+        if self.object.figures.refused != TABLE_TOO_SMALL {
             return few;
         }
-        call(self, self.table.len());
+        self.call(asked, self.table.len());
         self.table.len()
+    }
+
+    /// The check, beside the filling that just wrote over so many words, and others.
+    fn pair(&mut self, asked: Asked, words: usize, sizes: Sizes) -> Pair {
+        let rows = self.object.figures.rows as usize * ROW_WORDS;
+        self.first.0.clone_from(&self.object);
+        self.first.1.clear();
+        self.first.1.extend(&self.table[..rows]);
+        let first = self.filling(words / ROW_WORDS);
+        let check = match asked {
+            Asked::Header(input) => check(input),
+            Asked::Root(file) => check_root(file),
+        };
+        Pair::new(check, first, sizes, &mut |lent| {
+            self.call(asked, lent * ROW_WORDS);
+            self.filling(lent)
+        })
+    }
+
+    /// What was just answered with so many rows lent. The table's words after the last row must be
+    /// zero, and where it refuses all words of the object but the first.
+    fn filling(&self, lent: usize) -> Filling {
+        let rows = self.object.figures.rows as usize * ROW_WORDS;
+        let table = &self.table[..lent * ROW_WORDS];
+        assert_zeros(&self.object, table);
+        let (object, first) = &self.first;
+        Filling {
+            lent,
+            figures: self.object.figures,
+            alike: self.object.figures.refused != 0
+                || (self.object == *object && table[..rows] == first[..]),
+        }
     }
 
     fn written(&self, words: usize) -> Written {
@@ -152,18 +224,27 @@ impl Port {
     /// The call alone, over the whole table: the position after the header and the rows filled, or
     /// nothing where it refuses.
     pub fn data_object(&mut self, input: &Input) -> Option<(u64, u64)> {
-        self.call(input, self.table.len());
-        (self.object.refused == 0).then_some((self.object.next, self.object.rows))
+        self.call_by_hand(input, self.table.len());
+        let figures = self.object.figures;
+        (figures.refused == 0).then_some((figures.next, figures.rows))
     }
 
     /// The root operation alone, as the call above.
     pub fn root_object(&mut self, file: &[u8]) -> Option<(u64, u64)> {
         self.call_root(file, self.table.len());
-        (self.object.refused == 0).then_some((self.object.next, self.object.rows))
+        let figures = self.object.figures;
+        (figures.refused == 0).then_some((figures.next, figures.rows))
     }
 
-    /// The call, over the first words of the table.
-    fn call(&mut self, input: &Input, words: usize) {
+    /// A filling over the first words of the table.
+    fn call(&mut self, asked: Asked, words: usize) {
+        match asked {
+            Asked::Header(input) => self.call_by_hand(input, words),
+            Asked::Root(file) => self.call_root(file, words),
+        }
+    }
+
+    fn call_by_hand(&mut self, input: &Input, words: usize) {
         let table = &mut self.table[..words];
         // The pointers come from slices with their lengths, the table and the object are borrowed
         // alone, and the function keeps none of them.
@@ -182,7 +263,6 @@ impl Port {
         }
     }
 
-    /// The root operation, over the first words of the table.
     fn call_root(&mut self, file: &[u8], words: usize) {
         let table = &mut self.table[..words];
         // As above.
@@ -196,6 +276,36 @@ impl Port {
             );
         }
     }
+
+    /// The listing of a plain file.
+    fn list(&mut self, file: &[u8]) -> Vec<u8> {
+        let out = &mut self.listing;
+        out.resize(LISTING, 0);
+        // As above; the bytes that are lent are as many as the listing may have.
+        let length = unsafe { dowringaf_list(file.as_ptr(), file.len(), out.as_mut_ptr()) };
+        out[..length].to_vec()
+    }
+}
+
+/// The check of a header from values that are given by hand.
+pub fn check(input: &Input) -> Figures {
+    // The pointer comes from a slice with its length, and the function does not keep it.
+    unsafe {
+        dowringaf_check_data_object(
+            input.file.as_ptr(),
+            input.file.len(),
+            input.position,
+            input.offset_width.into(),
+            input.length_width.into(),
+            input.end_of_file,
+        )
+    }
+}
+
+/// The check of a plain file's root.
+fn check_root(file: &[u8]) -> Figures {
+    // As above.
+    unsafe { dowringaf_check_root_object(file.as_ptr(), file.len()) }
 }
 
 fn super_block(file: &[u8]) -> Result<SuperBlock, u64> {
@@ -220,17 +330,24 @@ fn super_block(file: &[u8]) -> Result<SuperBlock, u64> {
     Err(block.refused)
 }
 
-/// What was written, in the one form of both sides. The table's words after the last row must be
-/// zero, and where it refuses all words of the object but the first.
-fn outcome(object: &Object, table: &[u64], file: &[u8]) -> Outcome {
-    let unused = &table[object.rows as usize * ROW_WORDS..];
+/// The table's words after the last row must be zero, and where it refuses all words of the object
+/// but the first.
+fn assert_zeros(object: &Object, table: &[u64]) {
+    let unused = &table[object.figures.rows as usize * ROW_WORDS..];
     assert!(unused.iter().all(|word| *word == 0), "unused rows are zero");
-    if object.refused != 0 {
-        let refused = Written::refused(object.refused, 0).object;
+    if object.figures.refused != 0 {
+        let refused = Written::refused(object.figures.refused, 0).object;
         assert_eq!(*object, refused, "a refused object is zero");
-        return Outcome::Refused(object.refused);
     }
-    Outcome::Read(Box::new(object.header(file, table)))
+}
+
+/// What was written, in the one form of both sides.
+fn outcome(object: &Object, table: &[u64], file: &[u8]) -> Outcome {
+    assert_zeros(object, table);
+    match object.figures.refused {
+        0 => Outcome::Read(Box::new(object.header(file, table))),
+        number => Outcome::Refused(number),
+    }
 }
 
 impl Written {
@@ -238,7 +355,7 @@ impl Written {
     fn refused(number: u64, words: usize) -> Written {
         Written {
             object: Object {
-                refused: number,
+                figures: Figures::refused(number),
                 ..Object::default()
             },
             table: vec![0; words],
@@ -256,10 +373,11 @@ impl Object {
     }
 
     fn header(&self, file: &[u8], table: &[u64]) -> Header {
-        let rows = table.chunks_exact(ROW_WORDS).take(self.rows as usize);
+        let figures = &self.figures;
+        let rows = table.chunks_exact(ROW_WORDS).take(figures.rows as usize);
         Header {
-            next: self.next,
-            entries: self.entries,
+            next: figures.next,
+            entries: figures.entries,
             rows: rows.map(|words| row(file, words)).collect(),
             records: self.records.clone(),
             data: bytes(file, self.data_position, self.data_length),

@@ -1,5 +1,6 @@
 //! Headers: entries, chunks, continuation blocks, and the file around them.
 
+use super::crowded::FULL;
 use super::maker::{Maker, UNDEFINED_RATE};
 use super::piece::{Piece, Place};
 use crate::address::all_ones;
@@ -193,6 +194,7 @@ impl Maker<'_> {
     fn chunk(&mut self, plan: &Plan, number: usize, flags: u64, held: Option<&Piece>) -> Piece {
         let orders = flags & ORDERS != 0;
         let most = match number {
+            _ if self.crowd > FULL => 0,
             _ if plan.len() > CROWDED => 1,
             0 => 6,
             _ => 3,
@@ -201,6 +203,10 @@ impl Maker<'_> {
         if let Some(block) = held {
             let entry = self.entry(0, block, orders);
             chunk.append(&entry);
+        }
+        if self.crowd > 0 {
+            let small = self.small(number, plan.len(), orders);
+            chunk.append(&small);
         }
         for opened in self.contents(&plan[number], most) {
             let entry = match opened {

@@ -12,6 +12,8 @@ pub struct Maker<'r> {
     /// Whether version 1 compounds and attributes are made more often than others, and sizes of
     /// bodies that are too small, so that it shows where a body ends.
     pub early: bool,
+    /// The smallest messages that a header has beside the others.
+    pub crowd: u64,
     /// Faults that may still be made, and how often, in thousandths of the chances.
     faults: u32,
     rate: u64,
@@ -41,7 +43,7 @@ impl<'r> Maker<'r> {
         Maker::with_faults(random, 1, 0)
     }
 
-    fn with_faults(random: &'r mut Random, faults: u32, rate: u64) -> Maker<'r> {
+    pub fn with_faults(random: &'r mut Random, faults: u32, rate: u64) -> Maker<'r> {
         let offset_width = random.within(2, 8) as u8;
         let length_width = random.within(2, 8) as u8;
         Maker {
@@ -50,6 +52,7 @@ impl<'r> Maker<'r> {
             length_width,
             front: 0,
             early: false,
+            crowd: 0,
             faults,
             rate,
         }

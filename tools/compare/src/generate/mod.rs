@@ -1,6 +1,7 @@
 //! Inputs and plain files from a seed, in batches: the same seed and number give the same batch.
 
 mod attribute;
+pub mod crowded;
 mod damage;
 mod header;
 pub mod large;

@@ -63,6 +63,11 @@ fn made(random: &mut Random) -> Vec<u8> {
     Maker::new(random).plain(fault)
 }
 
+/// A file whose superblock has no fault.
+pub fn sound(maker: &mut Maker) -> Vec<u8> {
+    maker.plain(Fault::Nothing)
+}
+
 /// Good files, changed at every byte and cut at every length of the superblock, or of the file.
 fn damaged(random: &mut Random, whole: bool, show: &mut dyn FnMut(&[u8])) {
     let mut left = BATCH;

@@ -9,13 +9,16 @@ use crate::sum::{Closing, Wrong};
 const FIRST_BATCH: u64 = 1 << 48;
 /// Damaged copies that are left as the damage made them, in thousandths.
 const LEFT: u64 = 250;
-/// Other inputs that are made false, in thousandths.
+/// Other inputs that are made false, in thousandths; and where many are.
 const FALSE: u64 = 62;
+const OFTEN_FALSE: u64 = 200;
 
 pub struct Sums {
     random: Random,
     /// Whether the inputs are damaged copies of true ones.
     damaged: bool,
+    /// Those that are made false otherwise, in thousandths.
+    rate: u64,
 }
 
 impl Sums {
@@ -23,6 +26,15 @@ impl Sums {
         Sums {
             random: Random::new(seed, FIRST_BATCH + number),
             damaged,
+            rate: FALSE,
+        }
+    }
+
+    /// The same for inputs of which many are made false.
+    pub fn often_false(seed: u64, number: u64) -> Sums {
+        Sums {
+            rate: OFTEN_FALSE,
+            ..Sums::new(seed, number, false)
         }
     }
 
@@ -32,7 +44,7 @@ impl Sums {
             return given;
         }
         make_true(&mut given);
-        if !self.damaged && self.random.rarely(FALSE) {
+        if !self.damaged && self.random.rarely(self.rate) {
             let closings = given.closings();
             self.falsify(given.bytes_mut(), &closings);
         }

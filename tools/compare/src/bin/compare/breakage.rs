@@ -4,12 +4,15 @@
 use sides::address::OptionalAddress;
 use sides::answer::{Format, Header, Optional, Row};
 use sides::input::Input;
+use sides::pair::Pair;
 use sides::port::{Outcome, PlainAnswer};
 use sides::rust::{self, published};
 
 use crate::address_breakage::ADDRESSES;
+use crate::pair_breakage::PAIRS;
 use crate::plain_address_breakage::PLAIN_ADDRESSES;
 use crate::plain_breakage::PLAIN;
+use crate::plain_pair_breakage::PLAIN_PAIRS;
 use crate::sum_breakage::SUMS;
 
 pub struct Breakage {
@@ -22,6 +25,8 @@ pub enum Change {
     Header(fn(Outcome) -> Outcome),
     /// Of the same, where the input is given too.
     Given(fn(&Input, Outcome) -> Outcome),
+    /// Of the check and the fillings of a header, where the input is given too.
+    Pair(fn(&Input, &mut Pair)),
     /// Of the answers for a plain file, which is given too.
     Plain(fn(&[u8], &mut PlainAnswer)),
 }
@@ -99,12 +104,12 @@ const HEADER: &[Breakage] = &[
 
 /// All that are of headers.
 pub fn of_headers() -> impl Iterator<Item = &'static Breakage> {
-    HEADER.iter().chain(SUMS).chain(ADDRESSES)
+    HEADER.iter().chain(SUMS).chain(ADDRESSES).chain(PAIRS)
 }
 
 /// All that are of plain files.
 pub fn of_plain() -> impl Iterator<Item = &'static Breakage> {
-    PLAIN.iter().chain(PLAIN_ADDRESSES)
+    PLAIN.iter().chain(PLAIN_ADDRESSES).chain(PLAIN_PAIRS)
 }
 
 pub fn named(name: &str) -> Result<&'static Breakage, String> {
@@ -119,7 +124,13 @@ impl Breakage {
         match self.change {
             Change::Header(change) => change(outcome),
             Change::Given(change) => change(input, outcome),
-            Change::Plain(_) => outcome,
+            Change::Pair(_) | Change::Plain(_) => outcome,
+        }
+    }
+
+    pub fn break_pair(&self, input: &Input, pair: &mut Pair) {
+        if let Change::Pair(change) = self.change {
+            change(input, pair);
         }
     }
 

@@ -9,6 +9,7 @@ use sides::scan::Form;
 use sides::sum::{Closing, Of};
 
 use crate::judge::{Exclusion, FalseSum, Judged, OF_CONTINUATION, Untested, Verdict};
+use crate::tables::Tables;
 
 /// The message types with fields, by name; the rest are skipped by their size.
 const TYPES: &[(u64, &str)] = &[
@@ -132,10 +133,11 @@ pub struct Counts {
     pub panicked: u64,
     pub differing: u64,
     pub beside: Beside,
+    pub tables: Tables,
     /// What accepted headers hold.
     types: BTreeMap<u64, u64>,
     forms: BTreeMap<String, u64>,
-    headers_with_blocks: u64,
+    pub headers_with_blocks: u64,
     /// Headers with a body that runs over the stored value.
     overrun: u64,
     /// Headers with a block whose stored value is among the bytes of the header's sum.
@@ -157,6 +159,9 @@ impl Counts {
         }
         if alike || matches!(judged.verdict, Verdict::Differs(_)) {
             self.beside.count(judged);
+        }
+        if !matches!(judged.verdict, Verdict::Panicked(_) | Verdict::Differs(_)) {
+            self.tables.count(&judged.pair);
         }
         match &judged.verdict {
             Verdict::Accepted(header) => {
@@ -239,6 +244,7 @@ impl Counts {
             );
         }
         self.beside.print(name);
+        self.tables.print(name);
     }
 
     /// Prints the undefined addresses of headers that have a name.
@@ -282,6 +288,7 @@ impl Sum for Counts {
         add_all(&mut self.types, other.types);
         add_all(&mut self.forms, other.forms);
         self.beside.add(other.beside);
+        self.tables.add(other.tables);
     }
 }
 

@@ -7,13 +7,19 @@
 //! An end-of-file address above all ones of the width of offsets stands outside the comparison, since
 //! the published Rust then takes undefined addresses for places in the file. The mended one does not,
 //! and the port must answer as it does there too, or it is a disagreement.
+//!
+//! What is said of the port holds for its check and for its filling, each beside the Rust. Between the
+//! two the property of `Pair` must hold on every input, inside the comparison or not.
+
+use std::ops::RangeInclusive;
 
 use sides::address::{LAYOUT, Place, all_ones, numbers};
 use sides::answer::{Header, REFUSED};
 use sides::closing::{first_false, reached};
 use sides::input::{End, Input, get};
+use sides::pair::{Figures, Pair, Sizes};
 use sides::port::{self, PlainAnswer, Port};
-use sides::rust::{self, Entry, mended, published};
+use sides::rust::{self, CONTINUATION, ENTRIES, Entry, mended, published};
 use sides::scan::{self, Found, Outside};
 use sides::sum::{Closing, Of};
 
@@ -67,6 +73,8 @@ pub enum Verdict {
 
 pub struct Judged {
     pub verdict: Verdict,
+    /// The check and the fillings.
+    pub pair: Pair,
     /// The closings that were reached, in their order.
     pub closings: Vec<Closing>,
     pub found: Found,
@@ -99,8 +107,8 @@ impl Judge {
     }
 
     /// The answers for a plain file, broken where they are to be.
-    pub fn plain_answer(&mut self, file: &[u8]) -> PlainAnswer {
-        let mut answer = self.port.plain_answer(file);
+    pub fn plain_answer(&mut self, file: &[u8], sizes: Sizes) -> PlainAnswer {
+        let mut answer = self.port.plain_answer(file, sizes);
         if let Some(breakage) = self.breakage {
             breakage.break_plain(file, &mut answer);
         }
@@ -112,23 +120,37 @@ impl Judge {
     }
 
     pub fn judged(&mut self, input: &Input) -> Judged {
-        let answer = self.port.answer(input);
+        self.judged_with(input, Sizes::Many)
+    }
+
+    pub fn judged_with(&mut self, input: &Input, sizes: Sizes) -> Judged {
+        let (answer, mut pair) = self.port.answers(input, sizes);
         let port = self.broken(input, answer);
-        if !input.has_widths() {
-            return unasked(&port);
+        if let Some(breakage) = self.breakage {
+            breakage.break_pair(input, &mut pair);
         }
-        against_rust(input, port)
+        if !input.has_widths() {
+            return unasked(&port, pair);
+        }
+        against_rust(input, port, pair)
     }
 }
 
-/// What is said of the port's answer for an input with a width that no Rust takes.
-fn unasked(port: &port::Outcome) -> Judged {
+/// What is said of the port's answers for an input with a width that no Rust takes.
+fn unasked(port: &port::Outcome, pair: Pair) -> Judged {
     let verdict = match port {
-        port::Outcome::Refused(1) => Verdict::Outside(Exclusion::Number(1)),
-        other => Verdict::Differs(format!("port:\n{}Rust:\nnot asked\n", port_text(other))),
+        port::Outcome::Refused(1) if pair.check.refused == 1 && pair.fault().is_none() => {
+            Verdict::Outside(Exclusion::Number(1))
+        }
+        other => Verdict::Differs(format!(
+            "port:\n{}{}Rust:\nnot asked\n",
+            port_text(other),
+            pair_text(&pair)
+        )),
     };
     Judged {
         verdict,
+        pair,
         closings: Vec::new(),
         found: Found::default(),
         demanded: None,
@@ -137,8 +159,8 @@ fn unasked(port: &port::Outcome) -> Judged {
     }
 }
 
-/// What is said of the port's answer for an input whose widths are allowed.
-pub fn against_rust(input: &Input, port: port::Outcome) -> Judged {
+/// What is said of the port's answers for an input whose widths are allowed.
+pub fn against_rust(input: &Input, port: port::Outcome, pair: Pair) -> Judged {
     let mended = mended::rust_answer(input);
     let closings = reached(input, &mended);
     let refuses = matches!(mended.outcome, rust::Outcome::Refused);
@@ -146,6 +168,7 @@ pub fn against_rust(input: &Input, port: port::Outcome) -> Judged {
     let answers = Answers {
         input,
         port,
+        pair,
         published: published::rust_answer(input).outcome,
         found: scan::header(input, &mended.entries),
         demanded: last.and_then(|last| demanded(input, last)),
@@ -179,6 +202,7 @@ pub fn demanded(input: &Input, last: &Entry) -> Option<u64> {
 struct Answers<'a> {
     input: &'a Input,
     port: port::Outcome,
+    pair: Pair,
     published: rust::Outcome,
     mended: rust::Outcome,
     entries: Vec<Entry>,
@@ -192,6 +216,7 @@ impl Answers<'_> {
     fn judged(self) -> Judged {
         Judged {
             verdict: self.verdict(),
+            pair: self.pair,
             closings: self.closings,
             found: self.found,
             demanded: self.demanded,
@@ -205,7 +230,8 @@ impl Answers<'_> {
         if panics(&self.published) || panics(&self.mended) {
             return Verdict::Panicked(self.text());
         }
-        if self.published != self.mended && !self.found.is_mended() {
+        let unlike = self.published != self.mended && !self.found.is_mended();
+        if unlike || self.pair.fault().is_some() {
             return Verdict::Differs(self.text());
         }
         // What stands behind a false sum the port never sees.
@@ -228,8 +254,47 @@ impl Answers<'_> {
         }
     }
 
-    /// The verdict on the port's answer and the mended Rust's, with what the port has seen.
+    /// The verdict on the port's answers and the mended Rust's, with what the port has seen.
     fn compared(&self, seen: &[Entry], found: &Found) -> Verdict {
+        let verdict = self.filled(seen, found);
+        let agrees = self.is_checked(seen, found) && self.is_taken(&verdict, seen);
+        match verdict {
+            Verdict::Differs(_) => verdict,
+            _ if agrees => verdict,
+            _ => Verdict::Differs(self.text()),
+        }
+    }
+
+    /// Whether the check answers as the mended Rust does.
+    fn is_checked(&self, seen: &[Entry], found: &Found) -> bool {
+        match (self.pair.check.refused, &self.mended, self.false_sum) {
+            (number @ (2 | 14 | 22 | 23), ..) => self.deserved(number, seen, found),
+            (CHECKSUM, _, sum) => sum.is_some(),
+            (.., Some(_)) => false,
+            (0, rust::Outcome::Read(header), None) => self.pair.check == figures(header),
+            (number, rust::Outcome::Refused, None) => {
+                number != 0 && self.demanded.is_none_or(|demanded| demanded == number)
+            }
+            _ => false,
+        }
+    }
+
+    /// Whether a header that is refused takes as many rows before that as the mended Rust has read
+    /// messages. An answer of 14 or 22 ends the comparison before the Rust stops.
+    fn is_taken(&self, verdict: &Verdict, seen: &[Entry]) -> bool {
+        let taken = match verdict {
+            Verdict::Refused(_) => messages_before(seen),
+            Verdict::FalseSum(_) | Verdict::Outside(Exclusion::Number(23)) => {
+                messages(seen)..=messages(seen)
+            }
+            _ => return true,
+        };
+        let least = self.pair.least();
+        least.start() <= taken.end() && taken.start() <= least.end()
+    }
+
+    /// The verdict on what the port's filling answers and the mended Rust.
+    fn filled(&self, seen: &[Entry], found: &Found) -> Verdict {
         match (&self.port, &self.mended, self.false_sum) {
             (port::Outcome::Refused(number @ (2 | 14 | 22 | 23 | 24)), ..) => {
                 if self.deserved(*number, seen, found) {
@@ -263,8 +328,18 @@ impl Answers<'_> {
         match number {
             14 => seen.iter().any(|e| e.kind == LAYOUT && chunked(e.body)),
             22 => found.type_too_deep,
-            23 => self.false_sum.is_none() && matches!(self.mended, rust::Outcome::TooMany),
+            23 => self.false_sum.is_none() && self.has_all_entries(),
             2 => file.len() > 1 << 31,
+            _ => false,
+        }
+    }
+
+    /// Whether the Rust comes to a 4,097th entry. Where it refuses that by its first bytes, it does not
+    /// log it.
+    fn has_all_entries(&self) -> bool {
+        match self.mended {
+            rust::Outcome::TooMany => true,
+            rust::Outcome::Refused => self.entries.len() == ENTRIES,
             _ => false,
         }
     }
@@ -272,6 +347,7 @@ impl Answers<'_> {
     /// What each says; the published Rust only where it says something else.
     fn text(&self) -> String {
         let mut text = format!("port:\n{}", port_text(&self.port));
+        text += &pair_text(&self.pair);
         text += &format!("mended Rust:\n{}", rust_text(&self.mended));
         if self.published != self.mended {
             text += &published_text(&self.published);
@@ -281,6 +357,28 @@ impl Answers<'_> {
         }
         text + &sums_text(&self.closings, &self.input.file)
     }
+}
+
+/// The figures that a check has to answer for a header.
+pub fn figures(header: &Header) -> Figures {
+    Figures {
+        refused: 0,
+        next: header.next,
+        entries: header.entries,
+        rows: header.rows.len() as u64,
+    }
+}
+
+/// How many entries are messages, and not continuations.
+fn messages(entries: &[Entry]) -> usize {
+    let messages = entries.iter().filter(|entry| entry.kind != CONTINUATION);
+    messages.count()
+}
+
+/// How many messages were read before a refusal: the last entry that was begun may be what is refused.
+fn messages_before(entries: &[Entry]) -> RangeInclusive<usize> {
+    let before = &entries[..entries.len().saturating_sub(1)];
+    messages(before)..=messages(entries)
 }
 
 fn untested(outcome: &rust::Outcome) -> Untested {
@@ -305,6 +403,22 @@ pub fn published_text(outcome: &rust::Outcome) -> String {
 
 pub fn text(report: &[u8]) -> String {
     report.escape_ascii().to_string().replace("\\n", "\n")
+}
+
+/// The port's check, and from how many rows on its filling answers the same.
+pub fn pair_text(pair: &Pair) -> String {
+    let least = pair.least();
+    let mut text = format!("port's check:\n{}\n", pair.check.text());
+    text += &match (pair.fault(), pair.least_known()) {
+        (Some(fault), _) => format!("{fault}\n"),
+        (None, Some(rows)) => format!("a table of {rows} rows is large enough\n"),
+        (None, None) => format!(
+            "a table of {} to {} rows is large enough\n",
+            least.start(),
+            least.end()
+        ),
+    };
+    text
 }
 
 pub fn port_text(outcome: &port::Outcome) -> String {

@@ -7,15 +7,18 @@ mod breakage;
 mod counts;
 mod features;
 mod judge;
+mod pair_breakage;
 mod plain_address_breakage;
 mod plain_breakage;
 mod plain_judge;
+mod plain_pair_breakage;
 mod plain_run;
 mod run;
 mod self_test;
 mod shrink;
 mod store;
 mod sum_breakage;
+mod tables;
 
 use std::process::ExitCode;
 

@@ -85,8 +85,8 @@ pub const PLAIN: &[Breakage] = &[
             a.super_block = Err(3);
         }
     }),
-    breakage("root-number", |_, a| a.root.object.refused ^= 1),
-    breakage("root-next", |_, a| a.root.object.next += 1),
+    breakage("root-number", |_, a| a.root.object.figures.refused ^= 1),
+    breakage("root-next", |_, a| a.root.object.figures.next += 1),
     breakage("root-data", |_, a| a.root.object.data_length += 1),
     breakage("root-row", |_, a| a.root.table[3] ^= 1),
     breakage("root-last-word", |_, a| last_word(a)),

@@ -8,13 +8,16 @@ use sides::address::{Place, Seen};
 use sides::answer::SuperBlock;
 use sides::closing::{self, Summed};
 use sides::input::get;
+use sides::listing;
+use sides::pair::Sizes;
 use sides::plain::{VERSION, address, as_version_2, end, seen, version};
-use sides::port::Written;
+use sides::port::{PlainAnswer, Written};
 use sides::rust::mended;
 use sides::rust::published::{rust_answer, rust_parses, rust_super_block};
 
 use crate::judge::{
-    CHECKSUM, Judge, Judged, Verdict, against_rust, port_text, rust_text, sums_text,
+    CHECKSUM, Judge, Judged, Verdict, against_rust, pair_text, port_text, rust_text, sums_text,
+    text,
 };
 
 const LARGEST_FILE: usize = 1 << 31;
@@ -56,6 +59,12 @@ pub enum PlainVerdict {
     Outside(PlainExclusion),
     /// With what both say.
     Differs(String),
+}
+
+/// What is said of a plain file, and the number in its listing, 0 where that has rows.
+pub struct PlainJudged {
+    pub verdict: PlainVerdict,
+    pub listed: u64,
 }
 
 impl PlainVerdict {
@@ -108,10 +117,24 @@ impl PlainExclusion {
 
 impl Judge {
     pub fn plain_verdict(&mut self, file: &[u8]) -> PlainVerdict {
-        let answer = self.plain_answer(file);
+        self.plain_judged(file, Sizes::Many).verdict
+    }
+
+    pub fn plain_judged(&mut self, file: &[u8], sizes: Sizes) -> PlainJudged {
+        let answer = self.plain_answer(file, sizes);
+        PlainJudged {
+            listed: listing::number(&answer.listing),
+            verdict: self.verdict_of(file, answer),
+        }
+    }
+
+    fn verdict_of(&self, file: &[u8], answer: PlainAnswer) -> PlainVerdict {
         let ours = &answer.super_block;
         if answer.root != answer.by_hand {
             return unlike_by_hand(&answer.root, &answer.by_hand);
+        }
+        if let Some(verdict) = unlike_filling(file, &answer) {
+            return verdict;
         }
         if version(file) == Some(3) && rust_super_block(file).is_some() {
             return differ(&block_text(ours), "it reads version 3\n");
@@ -124,7 +147,8 @@ impl Judge {
                 let input = block.input(file);
                 let root = self.broken(&input, answer.root.outcome(file));
                 let addresses = seen(file, block.size_of_offsets);
-                PlainVerdict::Read(file[VERSION], addresses, against_rust(&input, root))
+                let root = against_rust(&input, root, answer.pair);
+                PlainVerdict::Read(file[VERSION], addresses, root)
             }
             (Ok(block), Some(theirs)) if *block == theirs => {
                 differ(&block_text(ours), "the port has to refuse it\n")
@@ -154,6 +178,29 @@ fn unlike_by_hand(root: &Written, by_hand: &Written) -> PlainVerdict {
         &format!("the root operation has {ours} as word {at} of the {place}\n"),
         &format!("not asked; the port by hand has {theirs}\n"),
     )
+}
+
+/// The root's check is another than the check by hand, or does not go with the root operation, or the
+/// listing is not that of what the root operation wrote.
+fn unlike_filling(file: &[u8], answer: &PlainAnswer) -> Option<PlainVerdict> {
+    let check = &answer.pair.check;
+    if *check != answer.check_by_hand {
+        let by_hand = answer.check_by_hand.text();
+        return Some(differ(
+            &format!("the root's check: {}\n", check.text()),
+            &format!("not asked; the port's check by hand: {by_hand}\n"),
+        ));
+    }
+    if answer.pair.fault().is_some() {
+        return Some(differ(&pair_text(&answer.pair), "not asked\n"));
+    }
+    let listing = listing::expected(file, &answer.by_hand);
+    (answer.listing != listing).then(|| {
+        differ(
+            &format!("the listing:\n{}", text(&answer.listing)),
+            &format!("not asked; to be listed:\n{}", text(&listing)),
+        )
+    })
 }
 
 /// The verdict on a superblock with an undefined address that the port has to refuse.
@@ -241,7 +288,7 @@ fn rust_block_text(block: Option<&SuperBlock>) -> String {
 
 /// The superblock and root header of all sides, and whether the Rust's `parse` takes the file.
 pub fn plain_text(judge: &mut Judge, file: &[u8]) -> String {
-    let answer = judge.plain_answer(file);
+    let answer = judge.plain_answer(file, Sizes::Many);
     let root = answer.root.outcome(file);
     let root = match &answer.super_block {
         Ok(block) => judge.broken(&block.input(file), root),
@@ -253,6 +300,7 @@ pub fn plain_text(judge: &mut Judge, file: &[u8]) -> String {
         "refuses"
     };
     let mut text = format!("port:\n{}", block_text(&answer.super_block)) + &port_text(&root);
+    text += &pair_text(&answer.pair);
     text += &format!("Rust:\n{}", rust_plain_text(file, file));
     if version(file) == Some(3) {
         let given = as_version_2(file);

@@ -5,15 +5,17 @@ use std::io::{self, Read};
 use std::time::Instant;
 
 use sides::address::Place;
+use sides::generate::crowded;
 use sides::generate::plain::plain_batch;
 use sides::input::digits;
+use sides::pair::{Sizes, TABLE_TOO_SMALL};
 use sides::real;
 
 use crate::arguments::Arguments;
 use crate::counts::{Addresses, Beside, Counts, Sum, add_all, count, print_refused};
 use crate::judge::{Judge, Verdict};
-use crate::plain_judge::{Behind, PlainExclusion, PlainVerdict, plain_text};
-use crate::run::{keep, over_threads, print_answers, print_speed};
+use crate::plain_judge::{Behind, PlainExclusion, PlainJudged, PlainVerdict, plain_text};
+use crate::run::{keep, over_threads, print_answers, print_speed, sizes};
 use crate::shrink::shrink_plain;
 
 #[derive(Default)]
@@ -29,6 +31,8 @@ struct Plain {
     read_addresses: Addresses,
     refused_addresses: Addresses,
     outside: BTreeMap<PlainExclusion, u64>,
+    /// Listings by their numbers, 0 for those with rows.
+    listed: BTreeMap<u64, u64>,
     differing: u64,
     /// The root headers behind superblocks that port and Rust read.
     roots: Counts,
@@ -37,8 +41,10 @@ struct Plain {
 }
 
 impl Plain {
-    fn count(&mut self, file: &[u8], verdict: &PlainVerdict) {
+    fn count(&mut self, file: &[u8], judged: &PlainJudged) {
+        let verdict = &judged.verdict;
         self.files += 1;
+        count(&mut self.listed, judged.listed);
         match verdict {
             PlainVerdict::Read(version, addresses, root) => {
                 count(&mut self.read, *version);
@@ -70,6 +76,14 @@ impl Plain {
         );
         beside.print("root headers of real files as they are ");
         print_speed(self.files, "files", start);
+        self.print_outcomes("plain files");
+        self.read_addresses.print("superblocks read");
+        self.refused_addresses.print("superblocks refused");
+        self.roots.print_addresses("root headers ");
+    }
+
+    /// Prints the outcomes of files that have a name.
+    fn print_outcomes(&self, name: &str) {
         print_versions("superblocks read by port and Rust", &self.read);
         print_refused("superblocks refused by port and Rust", &self.refused);
         print_versions(
@@ -83,11 +97,31 @@ impl Plain {
             println!("  {}: {count}", why.text());
         }
         self.roots.print("root headers ");
-        println!("panics of the Rust in plain files {}", self.roots.panicked);
-        println!("disagreements in plain files {}", self.disagreements());
-        self.read_addresses.print("superblocks read");
-        self.refused_addresses.print("superblocks refused");
-        self.roots.print_addresses("root headers ");
+        self.print_listed();
+        println!("panics of the Rust in {name} {}", self.roots.panicked);
+        println!("disagreements in {name} {}", self.disagreements());
+    }
+
+    fn print_listed(&self) {
+        let listed = |number: u64| self.listed.get(&number).copied().unwrap_or(0);
+        println!(
+            "listings {}, with rows {}, refused for their rows alone with {TABLE_TOO_SMALL} {}",
+            self.files,
+            listed(0),
+            listed(TABLE_TOO_SMALL)
+        );
+    }
+
+    fn print_shown(&mut self, arguments: &Arguments) {
+        let mut judge = Judge::new(arguments.breakage);
+        self.shown.sort_by_key(Vec::len);
+        for file in self.shown.iter().take(arguments.shown) {
+            print_smallest(&mut judge, file);
+        }
+    }
+
+    fn is_right(&self) -> bool {
+        self.disagreements() == 0 && self.roots.panicked == 0
     }
 
     fn print_undefined(&self) {
@@ -112,6 +146,7 @@ impl Sum for Plain {
         self.read_addresses.add(other.read_addresses);
         self.refused_addresses.add(other.refused_addresses);
         add_all(&mut self.outside, other.outside);
+        add_all(&mut self.listed, other.listed);
         self.roots.add(other.roots);
         self.shown.extend(other.shown);
     }
@@ -124,24 +159,38 @@ pub fn plain(arguments: &Arguments, count: u64) -> io::Result<bool> {
     let mut plain = Plain::default();
     let mut judge = Judge::new(arguments.breakage);
     for file in &real {
-        plain.count(file, &judge.plain_verdict(file));
+        plain.count(file, &judge.plain_judged(file, Sizes::Many));
     }
     let beside = plain.roots.beside.clone();
     plain.add(over_threads(
         arguments,
         count,
         &|number, judge, plain: &mut Plain| {
+            let mut shown = 0;
             plain_batch(arguments.seed, number, &real, &mut |file| {
-                plain.count(file, &judge.plain_verdict(file));
+                plain.count(file, &judge.plain_judged(file, sizes(number, shown)));
+                shown += 1;
             });
         },
     ));
     plain.print(real.len(), &beside, start);
-    plain.shown.sort_by_key(Vec::len);
-    for file in plain.shown.iter().take(arguments.shown) {
-        print_smallest(&mut judge, file);
-    }
-    Ok(plain.disagreements() == 0 && plain.roots.panicked == 0)
+    plain.print_shown(arguments);
+    Ok(plain.is_right())
+}
+
+/// Compares the crowded files that go with so many plain ones.
+pub fn crowded_files(arguments: &Arguments, count: u64) -> bool {
+    let start = Instant::now();
+    let mut plain = over_threads(arguments, count, &|number, judge, plain: &mut Plain| {
+        crowded::plain_batch(arguments.seed, number, &mut |file| {
+            plain.count(file, &judge.plain_judged(file, Sizes::Many));
+        });
+    });
+    println!("\ncrowded plain files {}", plain.files);
+    print_speed(plain.files, "files", start);
+    plain.print_outcomes("crowded plain files");
+    plain.print_shown(arguments);
+    plain.is_right()
 }
 
 /// How many superblocks are of each version.

@@ -5,14 +5,15 @@ use std::sync::atomic::{AtomicU64, Ordering};
 use std::thread::Builder;
 use std::time::Instant;
 
-use sides::generate::{BATCH, batch, large};
+use sides::generate::{BATCH, batch, crowded, large};
 use sides::input::Input;
+use sides::pair::Sizes;
 use sides::real;
 use sides::rust::STACK;
 
 use crate::arguments::Arguments;
 use crate::counts::{Counts, Sum, print_contents};
-use crate::judge::{Judge, Judged, Verdict, published_text, sums_text, text};
+use crate::judge::{Judge, Judged, Verdict, pair_text, published_text, sums_text, text};
 use crate::plain_run;
 use crate::shrink::shrink;
 
@@ -21,6 +22,8 @@ const COUNT: u64 = 2_000_000;
 const HEADERS_TO_PLAIN: u64 = 4;
 /// Disagreements that are kept.
 const KEPT: usize = 100;
+/// Of so many inputs of a batch one is filled with tables of many sizes.
+const MANY_SIZES: u64 = 4;
 
 #[derive(Default)]
 struct Headers {
@@ -45,6 +48,28 @@ impl Sum for Headers {
     }
 }
 
+impl Headers {
+    fn is_right(&self) -> bool {
+        self.counts.differing == 0 && self.counts.panicked == 0
+    }
+
+    fn print_shown(&mut self, arguments: &Arguments) {
+        let mut judge = Judge::new(arguments.breakage);
+        self.shown.sort_by_key(|input| input.file.len());
+        for input in self.shown.iter().take(arguments.shown) {
+            print_smallest(&mut judge, input);
+        }
+    }
+}
+
+/// How many tables are lent for one of the inputs of a batch.
+pub fn sizes(batch: u64, number: u64) -> Sizes {
+    match (batch + number) % MANY_SIZES {
+        0 => Sizes::Many,
+        _ => Sizes::Few,
+    }
+}
+
 /// Keeps what is shown later, as long as there is room.
 pub fn keep<T: ToOwned + ?Sized>(shown: &mut Vec<T::Owned>, input: &T) {
     if shown.len() < KEPT {
@@ -62,8 +87,10 @@ pub fn run(arguments: &Arguments) -> io::Result<bool> {
     }
     let count = arguments.count.unwrap_or(COUNT);
     let headers = headers(arguments, count)?;
+    let crowded = crowded_headers(arguments, count);
     let plain = plain_run::plain(arguments, count / HEADERS_TO_PLAIN)?;
-    Ok(headers && plain)
+    let crowded_files = plain_run::crowded_files(arguments, count / HEADERS_TO_PLAIN);
+    Ok(headers && crowded && plain && crowded_files)
 }
 
 fn headers(arguments: &Arguments, count: u64) -> io::Result<bool> {
@@ -83,8 +110,10 @@ fn headers(arguments: &Arguments, count: u64) -> io::Result<bool> {
         arguments,
         count,
         &|number, judge, headers: &mut Headers| {
+            let mut shown = 0;
             batch(arguments.seed, number, &real, &mut |input| {
-                headers.count(input, &judge.judged(input));
+                headers.count(input, &judge.judged_with(input, sizes(number, shown)));
+                shown += 1;
             });
         },
     ));
@@ -96,15 +125,34 @@ fn headers(arguments: &Arguments, count: u64) -> io::Result<bool> {
     beside.print("headers of real files as they are ");
     println!("headers of real files as they are with a false sum {false_sums}");
     print_counts(&headers.counts, start);
-    headers.shown.sort_by_key(|input| input.file.len());
-    for input in headers.shown.iter().take(arguments.shown) {
-        print_smallest(&mut judge, input);
-    }
+    headers.print_shown(arguments);
     let shows_patch = headers.counts.beside.shows_patch();
     if !shows_patch {
         println!("the published Rust answers nothing otherwise than the mended one");
     }
-    Ok(headers.counts.differing == 0 && headers.counts.panicked == 0 && shows_patch)
+    Ok(headers.is_right() && shows_patch)
+}
+
+/// Compares the crowded headers that go with so many inputs.
+fn crowded_headers(arguments: &Arguments, count: u64) -> bool {
+    let start = Instant::now();
+    let mut headers = over_threads(arguments, count, &|number, judge, headers: &mut Headers| {
+        crowded::batch(arguments.seed, number, &mut |input| {
+            headers.count(input, &judge.judged(input));
+        });
+    });
+    let counts = &headers.counts;
+    println!("\ncrowded headers {}", counts.headers);
+    print_speed(counts.headers, "headers", start);
+    counts.print("crowded headers ");
+    println!(
+        "crowded headers accepted with blocks {}",
+        counts.headers_with_blocks
+    );
+    println!("panics of the Rust in crowded headers {}", counts.panicked);
+    println!("disagreements in crowded headers {}", counts.differing);
+    headers.print_shown(arguments);
+    headers.is_right()
 }
 
 /// All batches of so many inputs, over the threads: `work` compares the batch of a number.
@@ -193,6 +241,7 @@ pub fn one(arguments: &Arguments) -> io::Result<bool> {
     let judged = Judge::new(arguments.breakage).judged(&input);
     print_answers(&judged);
     if !matches!(judged.verdict, Verdict::Differs(_) | Verdict::Panicked(_)) {
+        print!("{}", pair_text(&judged.pair));
         print!("{}", sums_text(&judged.closings, &input.file));
     }
     Ok(!matches!(

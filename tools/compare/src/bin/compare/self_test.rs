@@ -1,7 +1,7 @@
 //! Whether the comparison finds what is wrong: every breakage of the port's answer must show.
 
-use sides::generate::batch;
 use sides::generate::plain::plain_batch;
+use sides::generate::{batch, crowded};
 use sides::input::Input;
 
 use crate::arguments::Arguments;
@@ -70,7 +70,10 @@ fn in_headers(seed: u64, most: u64, breakage: &'static Breakage) -> Option<Found
         |judge: &mut Judge, input: &Input| matches!(judge.verdict(input), Verdict::Differs(_));
     let mut judge = Judge::new(Some(breakage));
     let mut broken = |input: &Input| differs(&mut judge, input);
-    let batch = |number, show: &mut dyn FnMut(&Input)| batch(seed, number, &[], show);
+    let batch = |number, show: &mut dyn FnMut(&Input)| {
+        batch(seed, number, &[], show);
+        crowded::batch(seed, number, show);
+    };
     let (tried, input) = first(most, &batch, &mut broken)?;
     let smallest = shrink(&input, &mut broken);
     Some(Found {
@@ -84,7 +87,10 @@ fn in_headers(seed: u64, most: u64, breakage: &'static Breakage) -> Option<Found
 fn in_plain(seed: u64, most: u64, breakage: &'static Breakage) -> Option<Found> {
     let mut judge = Judge::new(Some(breakage));
     let mut broken = |file: &[u8]| judge.plain_verdict(file).differs();
-    let batch = |number, show: &mut dyn FnMut(&[u8])| plain_batch(seed, number, &[], show);
+    let batch = |number, show: &mut dyn FnMut(&[u8])| {
+        plain_batch(seed, number, &[], show);
+        crowded::plain_batch(seed, number, show);
+    };
     let (tried, file) = first(most, &batch, &mut broken)?;
     let smallest = shrink_plain(&file, &mut broken);
     let unbroken = Judge::new(None).plain_verdict(&smallest);

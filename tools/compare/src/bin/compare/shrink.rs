@@ -9,9 +9,10 @@ use sides::plain::{address, as_version_2, version};
 use sides::rust::mended::{rust_super_block, rust_walk};
 use sides::rust::{CONTINUATION, Entry};
 
-/// Bytes that are tried at most, and what a try costs beside its bytes.
+/// Bytes that are tried at most, and what a try costs beside its bytes, and for so many numbers again.
 const WORK: usize = 200_000_000;
 const COST: usize = 4000;
+const NUMBERS: usize = 16;
 const LAYOUT: u8 = 8;
 
 struct Shrink<'a> {
@@ -103,7 +104,8 @@ impl Shrink<'_> {
         if input == self.best {
             return false;
         }
-        self.work = self.work.saturating_sub(input.file.len() + COST);
+        let cost = COST * (1 + self.counts.len() / NUMBERS);
+        self.work = self.work.saturating_sub(input.file.len() + cost);
         let shows = (self.shows)(&input);
         if shows {
             self.counts = counts(&input);

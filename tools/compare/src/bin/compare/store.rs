@@ -8,6 +8,7 @@ use sides::address::{self, Seen};
 use sides::answer::REFUSED;
 use sides::generate::{BATCH, batch};
 use sides::input::Input;
+use sides::pair::Sizes;
 use sides::random::Random;
 use sides::real;
 use sides::rust::{self, mended};
@@ -95,7 +96,7 @@ fn print_addresses(chosen: &[Chosen]) {
 
 /// Notes what an input shows. False where the sides disagree.
 fn note(shown: &mut Shown, judge: &mut Judge, input: &Input) -> bool {
-    let judged = judge.judged(input);
+    let judged = judge.judged_with(input, Sizes::Few);
     if matches!(judged.verdict, Verdict::Panicked(_) | Verdict::Differs(_)) {
         return false;
     }
