@@ -7,7 +7,7 @@ use sides::rust::{self, mended};
 use crate::breakage::{Breakage, Change};
 use crate::judge::{CHECKSUM, figures};
 
-const TOO_SMALL: Figures = Figures {
+pub const TOO_SMALL: Figures = Figures {
     refused: TABLE_TOO_SMALL,
     next: 0,
     entries: 0,
@@ -86,8 +86,7 @@ pub const PAIRS: &[Breakage] = &[
         });
     }),
     breakage("24-for-a-table-that-just-fits", |_, p| {
-        let rows = p.check.rows as usize;
-        at(p, rows, |f, _| f.figures = TOO_SMALL);
+        just_fitting(p, |f, _| f.figures = TOO_SMALL);
     }),
     breakage("a-row-too-few-passes", |_, p| {
         if let Some(rows) = p.check.rows.checked_sub(1) {
@@ -121,8 +120,7 @@ pub const PAIRS: &[Breakage] = &[
         }
     }),
     breakage("other-words-where-it-just-fits", |_, p| {
-        let rows = p.check.rows as usize;
-        at(p, rows, |f, _| f.alike = false);
+        just_fitting(p, |f, _| f.alike = false);
     }),
 ];
 
@@ -132,6 +130,13 @@ fn at(pair: &mut Pair, lent: usize, change: fn(&mut Filling, Figures)) {
     let mut fillings = pair.fillings.iter_mut();
     if let Some(filling) = fillings.find(|filling| filling.lent == lent) {
         change(filling, check);
+    }
+}
+
+/// Changes the filling with as many rows as the check has, where that passes.
+pub fn just_fitting(pair: &mut Pair, change: fn(&mut Filling, Figures)) {
+    if pair.check.refused == 0 {
+        at(pair, pair.check.rows as usize, change);
     }
 }
 

@@ -10,6 +10,7 @@ use sides::rust::published::rust_super_block;
 
 use crate::breakage::Breakage;
 use crate::judge::CHECKSUM;
+use crate::pair_breakage::{TOO_SMALL, just_fitting};
 use crate::plain_breakage::breakage;
 
 pub const PLAIN_PAIRS: &[Breakage] = &[
@@ -34,7 +35,7 @@ pub const PLAIN_PAIRS: &[Breakage] = &[
             b.end_of_file_address = b.root_group_object_header_address
         })
     }),
-    breakage("root-check-without-the-superblock's-sum", |f, a| {
+    breakage("root-check-without-the-superblock-sum", |f, a| {
         let block = rust_super_block(&as_version_2(f));
         if let Some(block) = block.filter(|_| a.super_block == Err(CHECKSUM)) {
             a.pair.check = check(&block.input(f));
@@ -50,15 +51,11 @@ pub const PLAIN_PAIRS: &[Breakage] = &[
     }),
     breakage("root-check-with-512-rows", |_, a| {
         if *a.pair.least().start() > LISTED_ROWS {
-            a.pair.check = Figures::refused(TABLE_TOO_SMALL);
+            a.pair.check = TOO_SMALL;
         }
     }),
     breakage("root-24-for-a-table-that-just-fits", |_, a| {
-        let rows = a.pair.check.rows as usize;
-        let mut fillings = a.pair.fillings.iter_mut();
-        if let Some(filling) = fillings.find(|filling| filling.lent == rows) {
-            filling.figures = Figures::refused(TABLE_TOO_SMALL);
-        }
+        just_fitting(&mut a.pair, |f, _| f.figures = TOO_SMALL);
     }),
     breakage("listing-fills-only", |_, a| {
         if *a.pair.least().start() > LISTED_ROWS {
