@@ -405,18 +405,14 @@ pub fn text(report: &[u8]) -> String {
     report.escape_ascii().to_string().replace("\\n", "\n")
 }
 
-/// The port's check, and from how many rows on its filling answers the same.
+/// The port's check, and what is wrong with its fillings or how many rows they need.
 pub fn pair_text(pair: &Pair) -> String {
     let least = pair.least();
     let mut text = format!("port's check:\n{}\n", pair.check.text());
     text += &match (pair.fault(), pair.least_known()) {
         (Some(fault), _) => format!("{fault}\n"),
-        (None, Some(rows)) => format!("a table of {rows} rows is large enough\n"),
-        (None, None) => format!(
-            "a table of {} to {} rows is large enough\n",
-            least.start(),
-            least.end()
-        ),
+        (None, Some(rows)) => format!("rows needed: {rows}\n"),
+        (None, None) => format!("rows needed: {} to {}\n", least.start(), least.end()),
     };
     text
 }
