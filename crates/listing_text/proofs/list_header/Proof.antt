@@ -11,8 +11,8 @@ check-data-object-requires c κs = search needs
 enum-known-refusal : tie.Need-enum-known-refusal
 enum-known-refusal c = search needs
 
-check-requires : tie.Need-check-requires
-check-requires c κs = search needs
+number-requires : tie.Need-check-requires
+number-requires c κs = search needs
 
 put-refused-requires : tie.Need-put-refused-requires
 put-refused-requires c κs = search needs
@@ -24,7 +24,7 @@ fill-header-requires : tie.Need-fill-header-requires
 fill-header-requires c κs = search needs
 
 returns : tie.Need-returns
-returns c = let a = (c .before .before .before .before .before .before .before .before .args) in let w = c .put-refused .ensures in (wrote-counts w, (w .same ∙ rw (c .before .before .check .ensures) (check-refused (a .file .now) (a .offset-width) (a .length-width) (a .end-of-file) (a .position) _ (c .before .before .before .before .before .before .check-data-object .ensures) (c .before .before .before .before .refusal .given .0 .0) (c .before .before .before .before .refusal .given .1)), w .behind))
+returns c = let a = (c .before .before .before .before .before .before .before .before .args) in let w = c .put-refused .ensures in (wrote-counts w, (w .same ∙ rw (c .before .before .number .ensures) (check-refused (a .file .now) (a .offset-width) (a .length-width) (a .end-of-file) (a .position) _ (c .before .before .before .before .before .before .check-data-object .ensures) (c .before .before .before .before .refusal .given .0 .0) (c .before .before .before .before .refusal .given .1)), w .behind))
 
 returns-2 : tie.Need-returns-2
 returns-2 c = let a = (c .before .before .before .before .before .before .args) in let w = c .fill-header .ensures in (wrote-counts w, (w .same ∙ check-passed (a .file .now) (a .offset-width) (a .length-width) (a .end-of-file) (a .position) _ (c .before .before .before .before .check-data-object .ensures) (c .before .before .enum-told .given .0 .0) (c .before .before .enum-told .given .1), w .behind))
@@ -35,7 +35,7 @@ list-header-spec =
     (tie.spec
     check-data-object-requires
     enum-known-refusal
-    check-requires
+    number-requires
     put-refused-requires
     enum-told
     fill-header-requires
