@@ -1,11 +1,11 @@
--- Laws of leads, of sums and of replaying. Assumes nothing.
-use Prim.Native.Nat.{ℕ, _-_, _*_, _≤_}
-use mathlib.Core.Path.{_≡_, sym, _∙_}
-use mathlib.Core.Bool.{Bool, false}
-use mathlib.Core.List.{List}
+-- Laws of leads, of comparisons, of sums and of replaying. Assumes nothing.
+use Prim.Native.Nat.{ℕ, _+_, _-_, _*_, _≤_, _<_}
+use mathlib.Core.Path.{_≡_, sym, ap, ap₂, _∙_}
+use mathlib.Core.Bool.{Bool, true, false}
+use mathlib.Core.List.{List, _++_}
 use native.Mathlib.Omega.{arith}
-use lib.ListN.{length, getD, take, drop, replicate, length-drop, length-replicate}
-use lib.Seq.{take-all}
+use lib.ListN.{length, getD, take, drop, replicate, length-append, length-drop, length-replicate, take-append-drop}
+use lib.Seq.{take-all, take-at, drop-at}
 use lib.Dec.{eqb}
 use borrow.Author.Tests.{eqb-true, eq-eqb}
 use Rattle.format.specs.Bytes.{le}
@@ -39,12 +39,37 @@ part-rest n s = take-all (length s - n) (drop n s) (omega (arith, length-drop n 
 pub compared : {xs text expected : List ℕ} {b : Bool} → xs ≡ text → Compared xs expected b → Compared text expected b
 compared e c = (λ h. sym e ∙ c .0 h, λ h. c .1 (e ∙ h))
 
+-- no flag is false and true
+contrary : {A : Type 0} → false ≡ true → A
+contrary b = let z : _≡_ {A = ℕ} 0 1 = cc in absurd (omega arith)
+
+-- Two texts, one behind the other, of which the first was written, n bytes: what is expected is shorter than it, or begins in another way, or
+-- begins with it, and then the rest decides.
+module _ (written first second expected : List ℕ) (n : ℕ) (long : n ≡ length written) (same : written ≡ first) where
+  pub parts-short : length expected < n → Compared (first ++ second) expected false
+  parts-short h = (
+    λ b. contrary b,
+    λ e. let k : length first + length second ≡ length expected = sym (length-append first second) ∙ ap length e in absurd (omega (arith, k, long, ap length same)),
+  )
+
+  at-n : length first ≡ n
+  at-n = sym (long ∙ ap length same)
+
+  pub parts-other : {b : Bool} → (written ≡ take n expected → b ≡ true) → b ≡ false → Compared (first ++ second) expected false
+  parts-other f h = (λ b. contrary b, λ e. sym h ∙ f (same ∙ sym (take-at first second n at-n) ∙ ap (take n) e))
+
+  pub parts-same : {b : Bool} → written ≡ take n expected → Compared second (drop n expected) b → Compared (first ++ second) expected b
+  parts-same e c = (
+    λ h. ap₂ _++_ (sym same ∙ e) (c .0 h) ∙ take-append-drop n expected,
+    λ h. c .1 (sym (drop-at first second n at-n) ∙ ap (drop n) h),
+  )
+
 -- four bytes are compared with the sum as numbers; other lengths are none
 pub sum-compared : (input expected : List ℕ) {x y : ℕ} → length expected ≡ 4 → x ≡ le expected 0 4 → y ≡ lookup3 input → Sums input expected (eqb x y)
 sum-compared input expected {x} {y} l e f = (λ b. (l, sym e ∙ eqb-true x y b ∙ f), λ s. eq-eqb x y (e ∙ s .1 ∙ sym f))
 
 pub sum-other : (input expected : List ℕ) → (length expected ≡ 4 → ⊥) → Sums input expected false
-sum-other input expected n = (λ b. let z : _≡_ {A = ℕ} 0 1 = cc in absurd (omega arith), λ s. absurd (n (s .0)))
+sum-other input expected n = (λ b. contrary b, λ s. absurd (n (s .0)))
 
 -- decoding into 64 empty rows
 module _ (file : List ℕ) (l : Lead) (t w : List ℕ) (h : Handed file (l .offsets) (l .lengths) (l .«end_of_file») (l .position) (length (replicate {A = ℕ} (64 * rowWords) 0)) t w) where

@@ -1,4 +1,5 @@
 pub mod Leads
+pub mod Checks
 pub mod Passes
 pub mod Replays
 pub mod Laws

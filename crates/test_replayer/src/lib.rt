@@ -1,5 +1,8 @@
-// Whether a case passes: its input has the listing, the report of its header, or the sum, that is
-// expected.
+// Whether a case passes: its input has the listing, with the line of its check where it is a header,
+// the report of its header, or the sum, that is expected.
+use data_object_check::CheckAnswer;
+use data_object_check::Figures;
+use data_object_check::check_data_object;
 use data_object_words::header_words;
 use helpers::ReadU8;
 use helpers::ReadU64;
@@ -13,13 +16,19 @@ use row::ROW_WORDS;
 use test_report::ends;
 use test_report::expect_report;
 ghost use mathlib.Core.Path.{_≡_};
+ghost use Prim.Native.Nat.{_≤_};
+ghost use lib.ListN.{length};
 ghost use Rattle.format.specs.Format.{read};
+ghost use Rattle.text.specs.Text.{Wrote};
+ghost use Rattle.data_object_check.specs.Checked.{checkOut};
+ghost use Rattle.test_replayer.specs.Checks.{passedLine, checkLine, Checks};
 ghost use Rattle.test_replayer.specs.Leads.{lead as leadFormat, leadOut};
 ghost use Rattle.test_replayer.specs.Passes.{Lists, ListsHeader, HeaderSays, Sums, Says};
 ghost use Rattle.test_replayer.specs.Replays.{Replays};
 
 // What is expected of an input: the listing of a plain file; of a header in a file behind the
-// values that are given by hand, its listing or its report; or the sum of its bytes.
+// values that are given by hand, its listing with the line of its check, or its report; or the sum
+// of its bytes.
 pub enum Against {
     Listing,
     HeaderListing,
@@ -75,7 +84,50 @@ fn lists(input: &[u8], expected: &[u8]) -> bool
     check::same(&out[..n], expected)
 }
 
-// Whether the header of a file has the listing that is expected.
+// What a check that passes tells: a word and the three figures.
+fn put_passed(out: &mut [u8], figures: Figures) -> usize
+    requires { ⌜ 71 ≤ length (now out) ⌝ }
+    ensures { λ r. ⌜ Wrote (now (out .entry)) 0 (now (out .exit)) r (passedLine figures) ⌝ }
+{
+    let at = text::put_text(out, 0, b"checked,");
+    let at = text::put_field(out, at, true, figures.next as u64, b',');
+    let at = text::put_field(out, at, true, figures.entries as u64, b',');
+    text::put_field(out, at, true, figures.rows as u64, b'\n')
+}
+
+// The line of a check, put at the start of out; the answer is its length.
+fn put_checked(out: &mut [u8], answer: CheckAnswer) -> usize
+    requires { ⌜ 71 ≤ length (now out) ⌝ }
+    ensures { λ r. ⌜ Wrote (now (out .entry)) 0 (now (out .exit)) r (checkLine (checkOut answer)) ⌝ }
+{
+    match answer {
+        CheckAnswer::Passed(figures) => put_passed(out, figures),
+        CheckAnswer::Refused(refusal) => {
+            let number = refusal.number();
+            let at = text::put_text(out, 0, b"refused,");
+            text::put_field(out, at, true, number, b'\n')
+        }
+    }
+}
+
+// Whether the check of a header has the line that is expected.
+fn checks(file: &[u8], lead: Lead, expected: &[u8]) -> bool
+    ensures { λ r. ⌜ Checks (now (expected .entry)) (now (file .entry)) lead r ⌝ }
+{
+    let answer = check_data_object(
+        file,
+        lead.position,
+        lead.offsets as u64,
+        lead.lengths as u64,
+        lead.end_of_file,
+    );
+    let mut line = [0u8; 71];
+    let n = put_checked(&mut line, answer);
+    check::same(&line[..n], expected)
+}
+
+// Whether the header of a file has the listing, and behind it the line of its check, that are
+// expected.
 fn lists_header(file: &[u8], lead: Lead, expected: &[u8]) -> bool
     ensures { λ r. ⌜ ListsHeader (now (expected .entry)) (now (file .entry)) lead r ⌝ }
 {
@@ -88,7 +140,12 @@ fn lists_header(file: &[u8], lead: Lead, expected: &[u8]) -> bool
         lead.end_of_file,
         &mut out,
     );
-    check::same(&out[..n], expected)
+    if n <= expected.len() {
+        if check::same(&out[..n], &expected[..n]) {
+            return checks(file, lead, &expected[n..]);
+        }
+    }
+    false
 }
 
 // Whether the header of a file, decoded into a table of 64 rows, has the report that is expected.
@@ -110,8 +167,8 @@ fn replays(file: &[u8], lead: Lead, expected: &[u8]) -> bool
     ends(expected, reached)
 }
 
-// Whether the header behind the values given by hand has the listing, or else the report, that is
-// expected.
+// Whether the header behind the values given by hand has the listing and the line of its check, or
+// else the report, that is expected.
 fn passes_header(listing: bool, input: &[u8], expected: &[u8]) -> bool
     ensures { λ r. ⌜ HeaderSays listing (now (input .entry)) (now (expected .entry)) r ⌝ }
 {
