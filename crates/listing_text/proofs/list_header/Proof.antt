@@ -11,7 +11,7 @@ check-data-object-requires c κs = search needs
 enum-known-refusal : tie.Need-enum-known-refusal
 enum-known-refusal c = search needs
 
-number-requires : tie.Need-check-requires
+number-requires : tie.Need-number-requires
 number-requires c κs = search needs
 
 put-refused-requires : tie.Need-put-refused-requires
