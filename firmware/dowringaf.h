@@ -17,16 +17,17 @@
  *     the call;
  *   - the stack has room. The proofs say nothing of it: DOWRINGAF_DECODING_STACK and
  *     DOWRINGAF_LISTING_STACK are bounds on what was measured at the deepest (firmware/stack.c);
- *     the other three functions use less than the first.
+ *     the three functions that they do not name use less than the first.
  *
  * Time is not proved either. For one entry of a header the file is read forwards, up to its end at
  * most, and the checksums are of little more than the bytes that entries pass; so a call takes at
- * most in proportion to the entries times the bytes of the file. There are at most 4,096 entries,
- * and with r rows lent at most r + 1 messages are read. Attributes whose types fail at the file's
- * last byte reach this: 4,096 of them took 0.3 s in 65,536 bytes, 3 s in 1,048,576 and up to 157 s
- * in 16,777,216 (docs/DECISIONS.md, "The time of a call"). Blocks of nearly a whole file, opened
- * as often as entries allow, took 0.1 s, 0.7 s and 10 s for their checksums in files of about
- * these sizes. Where an answer is due within a time, bound file_bytes or table_words.
+ * most in proportion to the entries times the bytes of the file. There are at most 4,096 entries.
+ * A check reads them all; a filling with r rows lent stops after r + 1 messages. Attributes whose
+ * types fail at the file's last byte reach this: 4,096 of them took 0.3 s in 65,536 bytes, 3 s in
+ * 1,048,576 and up to 157 s in 16,777,216 (docs/DECISIONS.md, "The time of a call"). Blocks of
+ * nearly a whole file, opened as often as entries allow, took 0.1 s, 0.7 s and 10 s for their
+ * checksums in files of about these sizes. Where an answer is due within a time, bound file_bytes,
+ * or for a filling without a check table_words.
  *
  * Every struct below is made of 64-bit words, without padding.
  */
@@ -41,8 +42,8 @@ extern "C" {
 #endif
 
 /*
- * Bytes of stack that dowringaf_data_object and dowringaf_root_object stay below, and those that
- * dowringaf_list does.
+ * Bytes of stack that dowringaf_data_object, dowringaf_root_object and the two checks stay below,
+ * and those that dowringaf_list does.
  */
 #define DOWRINGAF_DECODING_STACK 24576
 #define DOWRINGAF_LISTING_STACK 65536
@@ -219,6 +220,17 @@ typedef struct dowringaf_object {
     dowringaf_layout layout;
 } dowringaf_object;
 
+/*
+ * What a header holds, told without a table. Where it is refused, every word but the first is 0. A
+ * table for it has at least rows * DOWRINGAF_ROW_WORDS words; rows are at most 4,096.
+ */
+typedef struct dowringaf_checked {
+    uint64_t refused; /* 0, or an enum dowringaf_refusal, never DOWRINGAF_TABLE */
+    uint64_t next;    /* the position after the header */
+    uint64_t entries; /* the entries read, continuations among them */
+    uint64_t rows;    /* the rows that its messages take, one for each */
+} dowringaf_checked;
+
 /* A lookup. Where it is refused or nothing is found, every word but the first is 0. */
 typedef struct dowringaf_found {
     uint64_t refused; /* 0, or DOWRINGAF_TABLE */
@@ -257,6 +269,28 @@ void dowringaf_data_object(const uint8_t *file, size_t file_bytes, uint64_t posi
                            uint64_t *table, size_t table_words, dowringaf_object *object);
 
 /*
+ * Checks the object header at a position of a file, as dowringaf_data_object reads it, without a
+ * table. Accepts exactly the headers that dowringaf_data_object accepts with rows enough, 4,096 at
+ * most, and refuses every other with the number that it then has; so never with DOWRINGAF_TABLE.
+ * Reads no byte of the file that is not read for filling.
+ *
+ * For the same bytes, position, widths and end_of_file, and for any table:
+ *
+ *   - a header that passes the check is turned back by dowringaf_data_object only with
+ *     DOWRINGAF_TABLE, exactly when table_words / DOWRINGAF_ROW_WORDS is less than rows; otherwise
+ *     next, entries and rows are the same;
+ *   - a header that the check refuses is refused by dowringaf_data_object with the same number, or
+ *     with DOWRINGAF_TABLE where the table was full before.
+ *
+ * So a caller can ask for the rows, set a table aside and fill it, as firmware/example.c does. That
+ * helps only where the file is the same bytes in both calls. Nothing of the check is believed:
+ * dowringaf_data_object tests everything by itself, whatever was checked before.
+ */
+dowringaf_checked dowringaf_check_data_object(const uint8_t *file, size_t file_bytes,
+                                              uint64_t position, uint64_t offset_width,
+                                              uint64_t length_width, uint64_t end_of_file);
+
+/*
  * Finds the first attribute among the first rows of a table whose name in the file is the wanted
  * one. The table may be any: a row whose name leaves the file matches nothing. More rows than the
  * table has are refused with DOWRINGAF_TABLE.
@@ -291,14 +325,24 @@ dowringaf_superblock dowringaf_super_block(const uint8_t *file, size_t file_byte
 void dowringaf_root_object(const uint8_t *file, size_t file_bytes, uint64_t *table,
                            size_t table_words, dowringaf_object *object);
 
+/*
+ * Checks the root group's object header: exactly as dowringaf_check_data_object does with the
+ * position, the widths and the end-of-file address that dowringaf_super_block gives. Where the
+ * superblock is refused, the answer has its number. What holds of dowringaf_check_data_object and
+ * dowringaf_data_object holds of this and dowringaf_root_object.
+ */
+dowringaf_checked dowringaf_check_root_object(const uint8_t *file, size_t file_bytes);
+
 /* The bytes that dowringaf_list is lent. */
 #define DOWRINGAF_LISTING 98304
 
 /*
  * Writes the listing of a file of at most 65,536 bytes at the start of out, and yields its length.
- * What is listed is the root group's object header, as dowringaf_root_object decodes it with 512
- * rows lent. The listing has a line for each row and a last line, or `refused,` and a number. The
- * bytes of out after it are left as they were.
+ * What is listed is the root group's object header: it is checked as by dowringaf_check_root_object
+ * and, where it passes, decoded as by dowringaf_root_object with 512 rows lent. So DOWRINGAF_TABLE
+ * is listed only of a header with more than 512 rows in which nothing else is wrong. The listing
+ * has a line for each row and a last line, or `refused,` and a number. The bytes of out after it
+ * are left as they were.
  */
 size_t dowringaf_list(const uint8_t *file, size_t file_bytes, uint8_t out[DOWRINGAF_LISTING]);
 
