@@ -1,9 +1,9 @@
 /*
  * Prints what an object header holds.
  *
- *   decode FILE
- *   decode FILE POSITION
- *   decode FILE POSITION OFFSET_WIDTH LENGTH_WIDTH END_OF_FILE
+ *   decode [--check] FILE
+ *   decode [--check] FILE POSITION
+ *   decode [--check] FILE POSITION OFFSET_WIDTH LENGTH_WIDTH END_OF_FILE
  *
  * The first takes the root group's header and the second the header at a position, both by the
  * file's own superblock; the third is for files whose superblock is not of version 2 or 3. The
@@ -12,13 +12,18 @@
  * is, and names and data are written as the bytes they are. A superblock or a header that is
  * refused prints `refused,` and the refusal's number. The exit status is 0 for either, and 2 where
  * nothing could be decoded or written.
+ *
+ * A header is checked first, and then as many rows are set aside as it takes. With --check it stays
+ * at that, and in place of the header's lines one is printed: `checked`, the position after the
+ * header, its entries and its rows.
  */
 #include <stdio.h>
 #include <stdlib.h>
+#include <string.h>
 
 #include "dowringaf.h"
 
-enum { ROWS = 4096, LEAST_ROOM = 65536 };
+enum { LEAST_ROOM = 65536 };
 
 /* One byte more than is decoded, so that a larger file is refused without being read whole. */
 #define MOST_ROOM ((size_t)2147483649u)
@@ -26,8 +31,6 @@ enum { ROWS = 4096, LEAST_ROOM = 65536 };
 /* The words after the file's name, in their order. */
 enum { POSITION, OFFSET_WIDTH, LENGTH_WIDTH, END_OF_FILE, NUMBERS };
 
-static uint64_t table[ROWS * DOWRINGAF_ROW_WORDS];
-static const size_t table_words = sizeof table / sizeof table[0];
 static dowringaf_object object;
 
 struct bytes {
@@ -290,7 +293,17 @@ static void put_superblock(const dowringaf_superblock *block)
     putchar('\n');
 }
 
-static void put_object(const struct bytes *file)
+/* The three figures that the check and the filling have in common. */
+static void put_figures(const char *name, uint64_t next, uint64_t entries, uint64_t rows)
+{
+    fputs(name, stdout);
+    put_number(next);
+    put_number(entries);
+    put_number(rows);
+    putchar('\n');
+}
+
+static void put_object(const struct bytes *file, const uint64_t *table)
 {
     uint64_t i;
 
@@ -298,11 +311,7 @@ static void put_object(const struct bytes *file)
         put_refused(object.refused);
         return;
     }
-    fputs("read", stdout);
-    put_number(object.next);
-    put_number(object.entries);
-    put_number(object.rows);
-    putchar('\n');
+    put_figures("read", object.next, object.entries, object.rows);
     for (i = 0; i < object.rows; i++) {
         put_row(file, table + i * DOWRINGAF_ROW_WORDS);
     }
@@ -314,72 +323,127 @@ static void put_object(const struct bytes *file)
     put_layout(file, &object.layout);
 }
 
+/* What the numbers lead to, or without numbers the root's header. */
+static dowringaf_checked check(const struct bytes *file, const uint64_t *numbers)
+{
+    if (numbers == NULL) {
+        return dowringaf_check_root_object(file->at, file->count);
+    }
+    return dowringaf_check_data_object(file->at, file->count, numbers[POSITION],
+                                       numbers[OFFSET_WIDTH], numbers[LENGTH_WIDTH],
+                                       numbers[END_OF_FILE]);
+}
+
+/* The same header, into a table. */
+static void fill(const struct bytes *file, const uint64_t *numbers, uint64_t *table, size_t words)
+{
+    if (numbers == NULL) {
+        dowringaf_root_object(file->at, file->count, table, words, &object);
+    } else {
+        dowringaf_data_object(file->at, file->count, numbers[POSITION], numbers[OFFSET_WIDTH],
+                              numbers[LENGTH_WIDTH], numbers[END_OF_FILE], table, words,
+                              &object);
+    }
+}
+
+/* A header in a table of as many rows as it takes. Yields 0 where there is no memory for it. */
+static int decode_rows(const struct bytes *file, const uint64_t *numbers, size_t rows)
+{
+    uint64_t *table = calloc(rows, DOWRINGAF_ROW_WORDS * sizeof *table);
+
+    if (table == NULL && rows != 0) {
+        return 0;
+    }
+    fill(file, numbers, table, rows * DOWRINGAF_ROW_WORDS);
+    put_object(file, table);
+    free(table);
+    return 1;
+}
+
+/* A header, or only what the check says of it. Yields 0 where there is no memory for it. */
+static int decode(const struct bytes *file, const uint64_t *numbers, int only_check)
+{
+    dowringaf_checked checked = check(file, numbers);
+
+    if (checked.refused != 0) {
+        put_refused(checked.refused);
+        return 1;
+    }
+    if (only_check) {
+        put_figures("checked", checked.next, checked.entries, checked.rows);
+        return 1;
+    }
+    return decode_rows(file, numbers, checked.rows);
+}
+
 /* The root's header, or with a number the one at that position. */
-static void decode_by_superblock(const struct bytes *file, const uint64_t *numbers, int count)
+static int decode_by_superblock(const struct bytes *file, uint64_t *numbers, int count,
+                                int only_check)
 {
     dowringaf_superblock block = dowringaf_super_block(file->at, file->count);
 
     if (block.refused != 0) {
         put_refused(block.refused);
-        return;
+        return 1;
     }
     put_superblock(&block);
-    if (count == 0) {
-        dowringaf_root_object(file->at, file->count, table, table_words, &object);
-    } else {
-        dowringaf_data_object(file->at, file->count, numbers[POSITION], block.size_of_offsets,
-                              block.size_of_lengths, block.end_of_file_address, table,
-                              table_words, &object);
-    }
-    put_object(file);
+    numbers[OFFSET_WIDTH] = block.size_of_offsets;
+    numbers[LENGTH_WIDTH] = block.size_of_lengths;
+    numbers[END_OF_FILE] = block.end_of_file_address;
+    return decode(file, count == 0 ? NULL : numbers, only_check);
 }
 
-static void decode_by_hand(const struct bytes *file, const uint64_t *numbers)
-{
-    dowringaf_data_object(file->at, file->count, numbers[POSITION], numbers[OFFSET_WIDTH],
-                          numbers[LENGTH_WIDTH], numbers[END_OF_FILE], table, table_words,
-                          &object);
-    put_object(file);
-}
-
-/* The numbers among the words. Yields how many they are, or -1 where the words are not as above. */
+/*
+ * The words after the file's name as numbers. Yields how many they are, or -1 where the words are
+ * not as above.
+ */
 static int numbers_of(int count, char **words, uint64_t *numbers)
 {
     int i;
 
-    if (count != 2 && count != 3 && count != NUMBERS + 2) {
-        fputs("decode FILE [POSITION [OFFSET_WIDTH LENGTH_WIDTH END_OF_FILE]]\n", stderr);
+    if (count != 0 && count != 1 && count != NUMBERS) {
+        fputs("decode [--check] FILE [POSITION [OFFSET_WIDTH LENGTH_WIDTH END_OF_FILE]]\n",
+              stderr);
         return -1;
     }
-    for (i = 0; i < count - 2; i++) {
-        if (!number_of(words[i + 2], &numbers[i])) {
-            fprintf(stderr, "%s: not a number\n", words[i + 2]);
+    for (i = 0; i < count; i++) {
+        if (!number_of(words[i], &numbers[i])) {
+            fprintf(stderr, "%s: not a number\n", words[i]);
             return -1;
         }
     }
-    return count - 2;
+    return count;
+}
+
+/* Reads and decodes a file. Yields 0 where that could not be done. */
+static int decode_file(const char *path, uint64_t *numbers, int given, int only_check)
+{
+    struct bytes file;
+    int decoded = 0;
+
+    if (!read_file(path, &file)) {
+        fprintf(stderr, "%s: cannot be read\n", path);
+    } else {
+        decoded = given == NUMBERS ? decode(&file, numbers, only_check)
+                                   : decode_by_superblock(&file, numbers, given, only_check);
+        if (!decoded) {
+            fputs("no memory for the table\n", stderr);
+        }
+    }
+    free(file.at);
+    return decoded;
 }
 
 int main(int count, char **words)
 {
     uint64_t numbers[NUMBERS];
-    struct bytes file;
-    int given = numbers_of(count, words, numbers);
+    int only_check = count > 1 && strcmp(words[1], "--check") == 0;
+    int path = only_check ? 2 : 1;
+    int given = numbers_of(count - path - 1, words + path + 1, numbers);
 
-    if (given < 0) {
+    if (given < 0 || !decode_file(words[path], numbers, given, only_check)) {
         return 2;
     }
-    if (!read_file(words[1], &file)) {
-        fprintf(stderr, "%s: cannot be read\n", words[1]);
-        free(file.at);
-        return 2;
-    }
-    if (given == NUMBERS) {
-        decode_by_hand(&file, numbers);
-    } else {
-        decode_by_superblock(&file, numbers, given);
-    }
-    free(file.at);
     if (fflush(stdout) != 0 || ferror(stdout)) {
         fputs("standard output: cannot be written\n", stderr);
         return 2;

@@ -1,0 +1,76 @@
+/*
+ * Look first, fill later: asks how many rows the header of a file's root takes, sets as many aside
+ * and fills them. Written to be copied.
+ *
+ *   example < FILE
+ *
+ * Prints the number of rows, and for each the type of its message and, of an attribute, the name. A
+ * file that is refused prints `refused,` and the refusal's number. The exit status is 0 for either,
+ * and 2 where the file is too large for this program or there is no memory.
+ */
+#include <stdio.h>
+#include <stdlib.h>
+
+#include "dowringaf.h"
+
+enum { MOST_BYTES = 1048576 };
+
+/* One byte more, which shows that a file is larger. */
+static uint8_t file[MOST_BYTES + 1];
+static dowringaf_object object;
+
+static void put_line(const char *name, uint64_t number)
+{
+    printf("%s,%llu\n", name, (unsigned long long)number);
+}
+
+/* A row without a name has 0 for its position and its length. */
+static void put_row(const uint64_t *row)
+{
+    printf("%llu,", (unsigned long long)row[DOWRINGAF_ROW_TYPE]);
+    fwrite(file + row[DOWRINGAF_ROW_NAME_POSITION], 1, row[DOWRINGAF_ROW_NAME_LENGTH], stdout);
+    putchar('\n');
+}
+
+/*
+ * Nothing wrote to the file since it was checked, so that nothing is refused here. The test is for
+ * callers whose file may have changed.
+ */
+static void fill(size_t bytes, uint64_t *table, size_t rows)
+{
+    uint64_t i;
+
+    dowringaf_root_object(file, bytes, table, rows * DOWRINGAF_ROW_WORDS, &object);
+    if (object.refused != 0) {
+        put_line("refused", object.refused);
+        return;
+    }
+    for (i = 0; i < object.rows; i++) {
+        put_row(table + i * DOWRINGAF_ROW_WORDS);
+    }
+}
+
+int main(void)
+{
+    size_t bytes = fread(file, 1, sizeof file, stdin);
+    dowringaf_checked checked;
+    uint64_t *table;
+
+    if (bytes > MOST_BYTES) {
+        return 2;
+    }
+    checked = dowringaf_check_root_object(file, bytes);
+    if (checked.refused != 0) {
+        put_line("refused", checked.refused);
+        return 0;
+    }
+    put_line("rows", checked.rows);
+    /* There are at most 4,096 rows, so that no size overflows. For none the table may be NULL. */
+    table = calloc(checked.rows, DOWRINGAF_ROW_WORDS * sizeof *table);
+    if (table == NULL && checked.rows != 0) {
+        return 2;
+    }
+    fill(bytes, table, checked.rows);
+    free(table);
+    return 0;
+}
