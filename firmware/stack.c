@@ -24,6 +24,8 @@ static const size_t table_words = sizeof table / sizeof table[0];
 static uint8_t out[DOWRINGAF_LISTING];
 static dowringaf_object object;
 static dowringaf_object root_object;
+static dowringaf_checked checked;
+static dowringaf_checked checked_root;
 static size_t listed;
 
 static void put(uint64_t number, int width)
@@ -133,6 +135,18 @@ static void *decode_root(void *unused)
     return unused;
 }
 
+static void *check(void *unused)
+{
+    checked = dowringaf_check_data_object(file, count, SUPERBLOCK, 8, 8, count);
+    return unused;
+}
+
+static void *check_root(void *unused)
+{
+    checked_root = dowringaf_check_root_object(file, count);
+    return unused;
+}
+
 static void *list(void *unused)
 {
     listed = dowringaf_list(file, count, out);
@@ -164,35 +178,44 @@ static size_t written(void *(*run)(void *))
     return STACK - i;
 }
 
-static int is_deepest(const dowringaf_object *read)
+static int is_deepest(uint64_t refused, uint64_t entries, uint64_t rows)
 {
-    return read->refused == 0 && read->entries == BLOCKS + 1 && read->rows == 1;
+    return refused == 0 && entries == BLOCKS + 1 && rows == 1;
+}
+
+/* Whether every call read the deepest header. */
+static int all_read(void)
+{
+    return is_deepest(object.refused, object.entries, object.rows) &&
+           is_deepest(root_object.refused, root_object.entries, root_object.rows) &&
+           is_deepest(checked.refused, checked.entries, checked.rows) &&
+           is_deepest(checked_root.refused, checked_root.entries, checked_root.rows) &&
+           listed != 0 && memcmp(out, "0,3,", 4) == 0;
+}
+
+/* What a call uses, of some bytes that it may; yields 0 where it uses more. */
+static int stays_below(const char *name, void *(*run)(void *), size_t none, size_t most)
+{
+    size_t used = written(run) - none;
+
+    printf("stack: %s %lu\n", name, (unsigned long)used);
+    return used <= most;
 }
 
 int main(void)
 {
     size_t none = written(nothing);
-    size_t decoding;
-    size_t root;
-    size_t listing;
+    int below = 1;
 
     write_deepest();
-    decoding = written(decode) - none;
-    root = written(decode_root) - none;
-    listing = written(list) - none;
-    if (!is_deepest(&object) || !is_deepest(&root_object)) {
-        printf("the deepest header is not read: %llu, %llu\n", (unsigned long long)object.refused,
-               (unsigned long long)root_object.refused);
+    below &= stays_below("decoding", decode, none, DOWRINGAF_DECODING_STACK);
+    below &= stays_below("root", decode_root, none, DOWRINGAF_DECODING_STACK);
+    below &= stays_below("check", check, none, DOWRINGAF_DECODING_STACK);
+    below &= stays_below("check of the root", check_root, none, DOWRINGAF_DECODING_STACK);
+    below &= stays_below("listing", list, none, DOWRINGAF_LISTING_STACK);
+    if (!all_read()) {
+        puts("the deepest header is not read");
         return 1;
     }
-    if (listed == 0 || memcmp(out, "0,3,", 4) != 0) {
-        puts("the deepest header is not listed");
-        return 1;
-    }
-    printf("stack: decoding %lu, root %lu, listing %lu\n", (unsigned long)decoding,
-           (unsigned long)root, (unsigned long)listing);
-    if (decoding > DOWRINGAF_DECODING_STACK || root > DOWRINGAF_DECODING_STACK) {
-        return 1;
-    }
-    return listing <= DOWRINGAF_LISTING_STACK ? 0 : 1;
+    return below ? 0 : 1;
 }

@@ -29,6 +29,7 @@ HAS_WORDS(dowringaf_attribute_info, 8);
 HAS_WORDS(dowringaf_part, 2);
 HAS_WORDS(dowringaf_layout, 5);
 HAS_WORDS(dowringaf_object, 63);
+HAS_WORDS(dowringaf_checked, 4);
 HAS_WORDS(dowringaf_found, 3);
 HAS_WORDS(dowringaf_superblock, 8);
 
@@ -413,12 +414,14 @@ static void compare_layouts(const dowringaf_layout *l, uint64_t data)
     IS(l->data.length, 9);
 }
 
+/* The sizes of the full header's messages. */
+static const uint64_t sizes[MESSAGES] = {36, 28, 34, 10, 28, 31, 14};
+
 /* The rows, the name and the parts among them, and zeros after them. */
 static void compare_rows(const uint64_t *table, size_t words, const struct places *p)
 {
     static const uint64_t types[MESSAGES] = {1, 3, 2, 10, 21, 12, 8};
     static const uint64_t flags[MESSAGES] = {1, 4, 0, 0, 0, 0, 0};
-    static const uint64_t sizes[MESSAGES] = {36, 28, 34, 10, 28, 31, 14};
     size_t i;
 
     for (i = 0; i < MESSAGES; i++) {
@@ -455,6 +458,164 @@ static void look_up(const uint8_t *file, size_t bytes, const uint64_t *table, si
     free(wanted);
 }
 
+static void compare_zeros(const dowringaf_object *o, const uint64_t *table, size_t words)
+{
+    uint64_t all[sizeof *o / sizeof(uint64_t)];
+    size_t i;
+
+    memcpy(all, o, sizeof all);
+    for (i = 1; i < sizeof all / sizeof all[0]; i++) {
+        IS(all[i], 0);
+    }
+    for (i = 0; i < words; i++) {
+        IS(table[i], 0);
+    }
+}
+
+/* A header in a file, as both operations are given it. */
+struct header {
+    const uint8_t *file;
+    size_t bytes;
+    uint64_t position;
+    uint64_t offset_width;
+    uint64_t length_width;
+    uint64_t end;
+};
+
+/* One that is read by the widths of the full header. */
+static struct header header_at(const uint8_t *file, size_t bytes, uint64_t position, uint64_t end)
+{
+    struct header h;
+
+    h.file = file;
+    h.bytes = bytes;
+    h.position = position;
+    h.offset_width = OFFSET;
+    h.length_width = LENGTH;
+    h.end = end;
+    return h;
+}
+
+static dowringaf_checked refused_with(uint64_t number)
+{
+    dowringaf_checked refused = {0, 0, 0, 0};
+
+    refused.refused = number;
+    return refused;
+}
+
+static dowringaf_checked passed_with(uint64_t next, uint64_t entries, uint64_t rows)
+{
+    dowringaf_checked passed = {0, 0, 0, 0};
+
+    passed.next = next;
+    passed.entries = entries;
+    passed.rows = rows;
+    return passed;
+}
+
+/* What the filling says of a header, in the words of the check. */
+static dowringaf_checked checked_of(const dowringaf_object *o)
+{
+    dowringaf_checked checked = passed_with(o->next, o->entries, o->rows);
+
+    checked.refused = o->refused;
+    return checked;
+}
+
+static void compare_checked(dowringaf_checked got, dowringaf_checked expected)
+{
+    IS(got.refused, expected.refused);
+    IS(got.next, expected.next);
+    IS(got.entries, expected.entries);
+    IS(got.rows, expected.rows);
+}
+
+/* The check alone. It leaves the file as it is. */
+static void check_is(const struct header *h, dowringaf_checked expected)
+{
+    uint8_t *before = copy(h->file, h->bytes);
+
+    compare_checked(dowringaf_check_data_object(h->file, h->bytes, h->position, h->offset_width,
+                                                h->length_width, h->end),
+                    expected);
+    if (h->bytes != 0) {
+        IS((uint64_t)memcmp(h->file, before, h->bytes), 0);
+    }
+    free(before);
+}
+
+static void fill(const struct header *h, uint64_t *table, size_t words, dowringaf_object *o)
+{
+    dowringaf_data_object(h->file, h->bytes, h->position, h->offset_width, h->length_width, h->end,
+                          table, words, o);
+}
+
+/* The filling alone, of a table of some words. What it does not fill is zero. */
+static void filling_is(const struct header *h, size_t words, dowringaf_checked expected)
+{
+    uint64_t *table = ones(words);
+    dowringaf_object *o = object_of_ones();
+    size_t i;
+
+    fill(h, table, words, o);
+    compare_checked(checked_of(o), expected);
+    for (i = expected.rows * DOWRINGAF_ROW_WORDS; i < words; i++) {
+        IS(table[i], 0);
+    }
+    if (expected.refused != 0) {
+        compare_zeros(o, NULL, 0);
+    }
+    free(table);
+    free(o);
+}
+
+/*
+ * The check, and the filling of tables around the rows that are taken before the header ends, or
+ * before it is refused. With as many the two answer alike; with fewer the filling is refused for
+ * its table. Words that make no whole row make no difference.
+ */
+static void pair_is(const struct header *h, dowringaf_checked expected, uint64_t taken)
+{
+    static const size_t beyond[5] = {0, 9, 10, 19, 20};
+    size_t full = (size_t)taken * DOWRINGAF_ROW_WORDS;
+    size_t i;
+
+    check_is(h, expected);
+    filling_is(h, 0, full == 0 ? expected : refused_with(DOWRINGAF_TABLE));
+    for (i = 0; i < 5; i++) {
+        size_t words = full + beyond[i];
+
+        if (words >= DOWRINGAF_ROW_WORDS) {
+            words -= DOWRINGAF_ROW_WORDS;
+            filling_is(h, words, words < full ? refused_with(DOWRINGAF_TABLE) : expected);
+        }
+    }
+    check_is(h, expected);
+}
+
+/* The rows that are taken before a header is refused, where some are enough. */
+static uint64_t taken_of(const struct header *h, uint64_t enough)
+{
+    uint64_t least = 0;
+
+    while (least < enough) {
+        uint64_t rows = (least + enough) / 2;
+        uint64_t *table = ones((size_t)rows * DOWRINGAF_ROW_WORDS);
+        dowringaf_object *o = object_of_ones();
+
+        fill(h, table, (size_t)rows * DOWRINGAF_ROW_WORDS, o);
+        if (o->refused == DOWRINGAF_TABLE) {
+            least = rows + 1;
+        } else {
+            enough = rows;
+        }
+        free(table);
+        free(o);
+    }
+    return least;
+}
+
 /* Every field of the full header, and lookups in its table. */
 static void test_full(void)
 {
@@ -465,9 +626,12 @@ static void test_full(void)
     uint8_t *file;
     dowringaf_object *o = object_of_ones();
     dowringaf_part part;
+    struct header h;
 
     write_full(&w, &p);
     file = copy(w.bytes, w.count);
+    h = header_at(file, w.count, HEADER_FROM, w.count);
+    pair_is(&h, passed_with(p.next, MESSAGES, MESSAGES), MESSAGES);
     dowringaf_data_object(file, w.count, HEADER_FROM, OFFSET, LENGTH, w.count, table, words, o);
     IS(o->refused, 0);
     IS(o->next, p.next);
@@ -494,33 +658,19 @@ static void test_full(void)
     free(o);
 }
 
-static void compare_zeros(const dowringaf_object *o, const uint64_t *table, size_t words)
-{
-    uint64_t all[sizeof *o / sizeof(uint64_t)];
-    size_t i;
-
-    memcpy(all, o, sizeof all);
-    for (i = 1; i < sizeof all / sizeof all[0]; i++) {
-        IS(all[i], 0);
-    }
-    for (i = 0; i < words; i++) {
-        IS(table[i], 0);
-    }
-}
-
+/* With a table of some words. Where that is not the reason, the check refuses it too. */
 static void refuse_below(const uint8_t *bytes, size_t n, uint64_t position, uint64_t offset_width,
                          uint64_t end, size_t words, uint64_t number)
 {
     uint8_t *file = copy(bytes, n);
-    uint64_t *table = ones(words);
-    dowringaf_object *o = object_of_ones();
+    struct header h = header_at(file, n, position, end);
 
-    dowringaf_data_object(file, n, position, offset_width, LENGTH, end, table, words, o);
-    IS(o->refused, number);
-    compare_zeros(o, table, words);
+    h.offset_width = offset_width;
+    filling_is(&h, words, refused_with(number));
+    if (number != DOWRINGAF_TABLE) {
+        pair_is(&h, refused_with(number), taken_of(&h, words / DOWRINGAF_ROW_WORDS));
+    }
     free(file);
-    free(table);
-    free(o);
 }
 
 static void refuse(const uint8_t *bytes, size_t n, uint64_t position, uint64_t offset_width,
@@ -640,6 +790,18 @@ static void end_header(struct writer *w)
     put_sum(w, 0);
 }
 
+static void write_fixed(struct writer *w)
+{
+    begin_header(w);
+    entry(w, 3, 12, 0);
+    put(w, 0x10, 1);
+    put(w, 8, 3);
+    put(w, 4, 4);
+    put(w, 5, 2);
+    put(w, 27, 2);
+    end_header(w);
+}
+
 /* A fixed-point type, and no other record. */
 static void test_fixed(void)
 {
@@ -647,17 +809,15 @@ static void test_fixed(void)
     uint8_t *file;
     uint64_t *table = ones(DOWRINGAF_ROW_WORDS);
     dowringaf_object *o = object_of_ones();
+    struct header h;
 
-    begin_header(&w);
-    entry(&w, 3, 12, 0);
-    put(&w, 0x10, 1);
-    put(&w, 8, 3);
-    put(&w, 4, 4);
-    put(&w, 5, 2);
-    put(&w, 27, 2);
-    end_header(&w);
+    write_fixed(&w);
     file = copy(w.bytes, w.count);
-    dowringaf_data_object(file, w.count, 0, 2, 2, w.count, table, DOWRINGAF_ROW_WORDS, o);
+    h = header_at(file, w.count, 0, w.count);
+    h.offset_width = 2;
+    h.length_width = 2;
+    pair_is(&h, passed_with(w.count, 1, 1), 1);
+    fill(&h, table, DOWRINGAF_ROW_WORDS, o);
     IS(o->refused, 0);
     IS(o->next, w.count);
     IS(o->rows, 1);
@@ -688,6 +848,7 @@ static void test_block(void)
     uint8_t *file;
     uint64_t *table = ones(20);
     dowringaf_object *o = object_of_ones();
+    struct header h;
     size_t i;
 
     begin_header(&w);
@@ -700,7 +861,11 @@ static void test_block(void)
     entry(&w, 255, 0, 0);
     put_sum(&w, 19);
     file = copy(w.bytes, w.count);
-    dowringaf_data_object(file, w.count, 0, 2, 2, w.count, table, 20, o);
+    h = header_at(file, w.count, 0, w.count);
+    h.offset_width = 2;
+    h.length_width = 2;
+    pair_is(&h, passed_with(19, 3, 2), 2);
+    fill(&h, table, 20, o);
     IS(o->refused, 0);
     IS(o->next, 19);
     IS(o->entries, 3);
@@ -723,9 +888,12 @@ static void object_is(const uint8_t *bytes, size_t n, uint64_t position, int wid
     uint8_t *file = copy(bytes, n);
     uint64_t *table = ones(75);
     dowringaf_object *o = object_of_ones();
+    struct header h = header_at(file, n, position, end);
     size_t i;
 
-    dowringaf_data_object(file, n, position, (uint64_t)width, LENGTH, end, table, 75, o);
+    h.offset_width = (uint64_t)width;
+    pair_is(&h, checked_of(expected), expected->rows);
+    fill(&h, table, 75, o);
     for (i = 0; i < sizeof *o / sizeof(uint64_t); i++) {
         IS(((const uint64_t *)o)[i], ((const uint64_t *)expected)[i]);
     }
@@ -1127,6 +1295,7 @@ static void refuse_root(const uint8_t *bytes, size_t n, uint64_t number)
     dowringaf_object *o = object_of_ones();
     char listing[32];
 
+    compare_checked(dowringaf_check_root_object(file, n), refused_with(number));
     dowringaf_root_object(file, n, table, 75, o);
     IS(o->refused, number);
     compare_zeros(o, table, 75);
@@ -1296,7 +1465,7 @@ static void test_superblock_order(void)
     }
 }
 
-/* The root's header, and the one at its place by hand, word for word. */
+/* The root's header, and the one at its place by hand, word for word; and the check of the root. */
 static void root_is_by_hand(const struct writer *w, size_t n, uint64_t end, size_t words,
                             uint64_t rows)
 {
@@ -1305,9 +1474,16 @@ static void root_is_by_hand(const struct writer *w, size_t n, uint64_t end, size
     uint64_t *table = ones(words);
     dowringaf_object *root = object_of_ones();
     dowringaf_object *o = object_of_ones();
+    dowringaf_checked checked = dowringaf_check_root_object(file, n);
+    struct header h = header_at(file, n, HEADER_FROM, end);
     size_t i;
 
+    check_is(&h, checked);
     dowringaf_root_object(file, n, root_table, words, root);
+    if (words / DOWRINGAF_ROW_WORDS < checked.rows) {
+        checked = refused_with(DOWRINGAF_TABLE);
+    }
+    compare_checked(checked_of(root), checked);
     dowringaf_data_object(file, n, HEADER_FROM, OFFSET, LENGTH, end, table, words, o);
     IS(root->rows, rows);
     for (i = 0; i < sizeof *o / sizeof(uint64_t); i++) {
@@ -1348,6 +1524,7 @@ static void test_root(void)
     root_is_by_hand(&w, w.count, ends[3], 0, 0);
     write_undefined(&w, &p);
     root_is_by_hand(&w, w.count, w.count, 75, MESSAGES);
+    compare_checked(dowringaf_check_root_object(NULL, 0), refused_with(DOWRINGAF_SHORT));
     dowringaf_root_object(NULL, 0, NULL, 0, o);
     IS(o->refused, DOWRINGAF_SHORT);
     compare_zeros(o, NULL, 0);
@@ -1378,6 +1555,8 @@ static void far_root_is(uint64_t root, int width, uint64_t refused)
     dowringaf_root_object(file, FAR_BYTES, table, 75, o);
     IS(o->refused, refused);
     IS(o->next, refused == 0 ? root + 11 : 0);
+    compare_checked(dowringaf_check_root_object(file, FAR_BYTES),
+                    refused == 0 ? passed_with(root + 11, 0, 0) : refused_with(refused));
     free(file);
     free(table);
     free(o);
@@ -1462,8 +1641,10 @@ static void nested_is_read(const struct writer *w, const struct closing c[CLOSIN
     uint8_t *file = copy(w->bytes, w->count);
     uint64_t *table = ones(75);
     dowringaf_object *o = object_of_ones();
+    struct header h = header_at(file, w->count, HEADER_FROM, w->count);
 
-    dowringaf_data_object(file, w->count, HEADER_FROM, OFFSET, LENGTH, w->count, table, 75, o);
+    pair_is(&h, passed_with(c[1].end + 4, 5, 3), 3);
+    fill(&h, table, 75, o);
     IS(o->refused, 0);
     IS(o->next, c[1].end + 4);
     IS(o->entries, 5);
@@ -1542,6 +1723,194 @@ static void test_sum_order(void)
     }
 }
 
+/* Refused by both, with some rows taken before. */
+static void refuse_after(const struct writer *w, size_t n, uint64_t number, uint64_t taken)
+{
+    uint8_t *file = copy(w->bytes, n);
+    struct header h = header_at(file, n, HEADER_FROM, w->count);
+
+    pair_is(&h, refused_with(number), taken);
+    free(file);
+}
+
+/* The messages of the full header that end within some bytes; the last one's data end the file. */
+static uint64_t ended_within(const struct places *p, size_t n)
+{
+    uint64_t ended = 0;
+    size_t i;
+
+    for (i = 0; i < MESSAGES - 1; i++) {
+        ended += p->body[i] + sizes[i] <= n;
+    }
+    return ended;
+}
+
+/* How many rows are taken before the full header is cut, or an entry or its sum is wrong. */
+static void test_taken(void)
+{
+    struct writer w;
+    struct places p;
+    size_t i;
+
+    write_full(&w, &p);
+    for (i = 0; i < w.count; i++) {
+        refuse_after(&w, i, DOWRINGAF_SHORT, ended_within(&p, i));
+    }
+    for (i = 0; i < MESSAGES; i++) {
+        write_full(&w, &p);
+        w.bytes[p.body[i] - 1] = 2;
+        refuse_after(&w, w.count, DOWRINGAF_ENTRY_FLAGS, i);
+    }
+    write_full(&w, &p);
+    w.bytes[p.next - 1] ^= 1;
+    refuse_after(&w, w.count, DOWRINGAF_CHECKSUM, MESSAGES);
+}
+
+/* The same before the sums of blocks: the innermost is tested when one row is taken. */
+static void test_taken_in_blocks(void)
+{
+    static const uint64_t taken[CLOSINGS] = {0, 3, 2, 1};
+    struct writer w;
+    struct closing c[CLOSINGS];
+    size_t i;
+
+    for (i = 1; i < CLOSINGS; i++) {
+        write_nested(&w, c);
+        w.bytes[c[i].end] ^= 1;
+        refuse_after(&w, w.count, DOWRINGAF_CHECKSUM, taken[i]);
+    }
+}
+
+/* What either operation is refused for before it reads the header, and files of no bytes. */
+static void test_refused_checks(void)
+{
+    enum { COUNT = 6 };
+    static const uint64_t widths[COUNT] = {0, 1, 9, 256 + OFFSET, 256 + LENGTH, UINT64_MAX};
+    struct writer w;
+    struct places p;
+    uint8_t *file;
+    struct header h;
+    size_t i;
+
+    write_full(&w, &p);
+    file = copy(w.bytes, w.count);
+    for (i = 0; i < COUNT; i++) {
+        h = header_at(file, w.count, HEADER_FROM, w.count);
+        h.offset_width = widths[i];
+        pair_is(&h, refused_with(DOWRINGAF_WIDTH), 0);
+        h = header_at(file, w.count, HEADER_FROM, w.count);
+        h.length_width = widths[i];
+        pair_is(&h, refused_with(DOWRINGAF_WIDTH), 0);
+        h = header_at(file, w.count, UINT64_MAX - i, w.count);
+        pair_is(&h, refused_with(DOWRINGAF_SHORT), 0);
+        h = header_at(file, w.count, HEADER_FROM | (uint64_t)1 << (63 - 8 * i), w.count);
+        pair_is(&h, refused_with(DOWRINGAF_SHORT), 0);
+        h = header_at(NULL, 0, i, w.count);
+        pair_is(&h, refused_with(DOWRINGAF_SHORT), 0);
+    }
+    free(file);
+}
+
+/* A file whose root's header has some entries without a body. */
+static uint8_t *many_entries(size_t entries, size_t *bytes)
+{
+    size_t end = SUPERBLOCK + 8 + entries * 4;
+    uint8_t *file = block(end + 4, 1);
+    struct writer w;
+
+    w.count = 0;
+    put_superblock(&w, OFFSET, LENGTH, UINT64_MAX, end + 4, SUPERBLOCK);
+    put_text(&w, "OHDR\2\1");
+    put(&w, entries * 4, 2);
+    memset(file, 0, end);
+    memcpy(file, w.bytes, w.count);
+    make_true(file, SUPERBLOCK, end);
+    *bytes = end + 4;
+    return file;
+}
+
+/* Both operations on as many entries as there may be, and on one more. */
+static void test_most_entries(void)
+{
+    enum { MOST = 4096 };
+    size_t n;
+    uint8_t *file = many_entries(MOST, &n);
+    struct header h = header_at(file, n, SUPERBLOCK, n);
+
+    pair_is(&h, passed_with(n, MOST, MOST), MOST);
+    compare_checked(dowringaf_check_root_object(file, n), passed_with(n, MOST, MOST));
+    free(file);
+    file = many_entries(MOST + 1, &n);
+    h = header_at(file, n, SUPERBLOCK, n);
+    pair_is(&h, refused_with(DOWRINGAF_ENTRIES), MOST);
+    compare_checked(dowringaf_check_root_object(file, n), refused_with(DOWRINGAF_ENTRIES));
+    free(file);
+}
+
+/*
+ * The listing lends 512 rows. More are refused for that where nothing else is wrong, and otherwise
+ * for what is wrong behind them: a last entry, its end, or the sum.
+ */
+static void test_listed_rows(void)
+{
+    enum { LISTED = 512 };
+    uint8_t *out = block(DOWRINGAF_LISTING, 1);
+    size_t n;
+    uint8_t *file = many_entries(LISTED, &n);
+    size_t length = dowringaf_list(file, n, out);
+
+    IS((uint64_t)(length > 13 && memcmp(out + length - 13, "end,2108,512\n", 13) == 0), 1);
+    free(file);
+    free(out);
+    file = many_entries(LISTED + 1, &n);
+    listing_is(file, n, "refused,24\n");
+    compare_checked(dowringaf_check_root_object(file, n), passed_with(n, LISTED + 1, LISTED + 1));
+    file[n - 1] ^= 1;
+    listing_is(file, n, "refused,28\n");
+    free(file);
+    file = many_entries(LISTED + 2, &n);
+    listing_is(file, n, "refused,24\n");
+    listing_is(file, n - 5, "refused,3\n");
+    file[n - 5] = 2;
+    listing_is(file, n, "refused,8\n");
+    free(file);
+}
+
+/* A file that cannot be written: a header of two messages, and one without entries. */
+static void test_constant(void)
+{
+    static const uint8_t file[] =
+        "OHDR\2\0\14\0\2\0\0\252\273\12\2\0\0\0\0\337\234\322\331"
+        "OHDR\2\0\0\357\27\4\254";
+    enum { BYTES = sizeof file - 1, SECOND = 23 };
+    struct header h = header_at(file, BYTES, 0, BYTES);
+
+    pair_is(&h, passed_with(SECOND, 2, 2), 2);
+    h.position = SECOND;
+    pair_is(&h, passed_with(BYTES, 0, 0), 0);
+    compare_checked(dowringaf_check_root_object(file, BYTES),
+                    refused_with(DOWRINGAF_SUPERBLOCK_SIGNATURE));
+}
+
+/* The filling believes nothing: a header that is another one since it was checked. */
+static void test_changed(void)
+{
+    struct writer w;
+    struct header h;
+
+    write_small(&w);
+    h = header_at(w.bytes, w.count, SUPERBLOCK, w.count);
+    check_is(&h, passed_with(71, 2, 2));
+    w.bytes[SUPERBLOCK + 11] ^= 1;
+    check_is(&h, refused_with(DOWRINGAF_CHECKSUM));
+    filling_is(&h, 20, refused_with(DOWRINGAF_CHECKSUM));
+    memset(w.bytes + SUPERBLOCK + 7, 0, 12);
+    make_true(w.bytes, SUPERBLOCK, w.count - 4);
+    filling_is(&h, 20, refused_with(DOWRINGAF_TABLE));
+    check_is(&h, passed_with(71, 3, 3));
+    filling_is(&h, 30, passed_with(71, 3, 3));
+}
+
 static int write_file(const char *path, const struct writer *w)
 {
     FILE *stream = fopen(path, "wb");
@@ -1599,6 +1968,13 @@ int main(int count, char **words)
     test_far_roots();
     test_sums();
     test_sum_order();
+    test_taken();
+    test_taken_in_blocks();
+    test_refused_checks();
+    test_most_entries();
+    test_listed_rows();
+    test_constant();
+    test_changed();
     printf("%lu compared, %lu failed\n", compared, failed);
     return failed == 0 ? 0 : 1;
 }
