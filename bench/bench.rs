@@ -2,8 +2,9 @@
 //! what the port reads, so that both do the same work.
 //!
 //!     bench make DIRECTORY [FILE...]   writes the inputs: made ones, real files, and their headers
-//!     bench SIDE INPUT TIMES           decodes an input so many times; SIDE is port or rust
-//!     bench time INPUT                 nanoseconds a call, the best of many runs: port, then rust
+//!     bench SIDE INPUT TIMES           decodes an input so many times; SIDE is port or rust, or
+//!                                      check, which is the port's check of the same header
+//!     bench time INPUT                 nanoseconds a call, the best of many runs: port, rust, check
 //!     bench entries INPUT              the entries of an input that both sides accept
 //!     bench summed INPUT               the lengths of what the port sums in it
 
@@ -29,6 +30,28 @@ const CONTINUATION: u8 = 16;
 const CONTINUATION_BYTES: usize = 4 + 8 + 8;
 /// A header's fields and an entry's prefix.
 const FIRST_BYTES: usize = 10 + 4;
+
+/// The words of dowringaf.h that a check answers.
+#[repr(C)]
+#[derive(Debug, PartialEq, Eq)]
+struct Checked {
+    refused: u64,
+    next: u64,
+    entries: u64,
+    rows: u64,
+}
+
+unsafe extern "C" {
+    fn dowringaf_check_data_object(
+        file: *const u8,
+        file_bytes: usize,
+        position: u64,
+        offset_width: u64,
+        length_width: u64,
+        end_of_file: u64,
+    ) -> Checked;
+    fn dowringaf_check_root_object(file: *const u8, file_bytes: usize) -> Checked;
+}
 
 /// What both sides are given.
 enum Given {
@@ -219,10 +242,20 @@ fn by_hand(given: &Given) -> Input {
     }
 }
 
-/// As many rows as the header has messages.
+/// As many rows as the header has messages, which the check must say too.
 fn port_for(given: &Given) -> Port {
     match Port::default().answer(&by_hand(given)) {
-        PortOutcome::Read(header) => Port::lending(header.rows.len()),
+        PortOutcome::Read(header) => {
+            let rows = header.rows.len();
+            let expected = Checked {
+                refused: 0,
+                next: header.next,
+                entries: header.entries,
+                rows: rows as u64,
+            };
+            assert_eq!(check(given), expected, "the check");
+            Port::lending(rows)
+        }
         PortOutcome::Refused(number) => panic!("the port refuses with {number}"),
     }
 }
@@ -232,6 +265,27 @@ fn call_port(port: &mut Port, given: &Given) {
         Given::Header(input) => black_box(port.data_object(black_box(input))),
         Given::File(file) => black_box(port.root_object(black_box(file))),
     };
+}
+
+fn check(given: &Given) -> Checked {
+    // The pointers come from slices with their lengths, and the functions keep none of them.
+    match given {
+        Given::Header(input) => unsafe {
+            dowringaf_check_data_object(
+                input.file.as_ptr(),
+                input.file.len(),
+                input.position,
+                input.offset_width.into(),
+                input.length_width.into(),
+                input.end_of_file,
+            )
+        },
+        Given::File(file) => unsafe { dowringaf_check_root_object(file.as_ptr(), file.len()) },
+    }
+}
+
+fn call_check(given: &Given) {
+    black_box(check(black_box(given)));
 }
 
 /// For a file `parse`, which is the Rust's own way from a file to its root.
@@ -244,6 +298,10 @@ fn call_rust(given: &Given) {
 
 fn run(side: &str, given: &Given, times: usize) {
     let mut port = port_for(given);
+    if side == "check" {
+        (0..times).for_each(|_| call_check(given));
+        return;
+    }
     for _ in 0..times {
         if side == "port" {
             call_port(&mut port, given);
@@ -267,7 +325,8 @@ fn time(given: &Given) {
     let mut port = port_for(given);
     let ours = best(|| call_port(&mut port, given));
     let theirs = best(|| call_rust(given));
-    println!("{ours} {theirs}");
+    let checked = best(|| call_check(given));
+    println!("{ours} {theirs} {checked}");
 }
 
 fn entries(given: &Given) {
@@ -298,11 +357,11 @@ fn main() -> ExitCode {
         ["time", path] => time(&load(path)),
         ["entries", path] => entries(&load(path)),
         ["summed", path] => summed(&load(path)),
-        [side @ ("port" | "rust"), path, times] => {
+        [side @ ("port" | "rust" | "check"), path, times] => {
             run(side, &load(path), times.parse().expect("a number"));
         }
         _ => {
-            eprintln!("usage: bench make DIRECTORY [FILE...] | port|rust INPUT TIMES | time|entries|summed INPUT");
+            eprintln!("usage: bench make DIRECTORY [FILE...] | port|rust|check INPUT TIMES | time|entries|summed INPUT");
             return ExitCode::from(2);
         }
     }

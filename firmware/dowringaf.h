@@ -17,12 +17,12 @@
  *     the call;
  *   - the stack has room. The proofs say nothing of it: DOWRINGAF_DECODING_STACK and
  *     DOWRINGAF_LISTING_STACK are bounds on what was measured at the deepest (firmware/stack.c);
- *     the three functions that they do not name use less than the first.
+ *     the three functions that neither is for use less than the first.
  *
  * Time is not proved either. For one entry of a header the file is read forwards, up to its end at
  * most, and the checksums are of little more than the bytes that entries pass; so a call takes at
  * most in proportion to the entries times the bytes of the file. There are at most 4,096 entries.
- * A check reads them all; a filling with r rows lent stops after r + 1 messages. Attributes whose
+ * A check reads as many; a filling with r rows lent stops after r + 1 messages. Attributes whose
  * types fail at the file's last byte reach this: 4,096 of them took 0.3 s in 65,536 bytes, 3 s in
  * 1,048,576 and up to 157 s in 16,777,216 (docs/DECISIONS.md, "The time of a call"). Blocks of
  * nearly a whole file, opened as often as entries allow, took 0.1 s, 0.7 s and 10 s for their
