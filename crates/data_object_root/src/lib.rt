@@ -49,12 +49,11 @@ pub fn check_root(file: &[u8]) -> CheckAnswer
 {
     match super_block(file) {
         SuperBlockRead::Refused(refusal) => CheckAnswer::Refused(refusal),
-        SuperBlockRead::Read(block, _) => check_data_object(
-            file,
-            block.root_group_object_header_address,
-            block.size_of_offsets as u64,
-            block.size_of_lengths as u64,
-            block.end_of_file_address,
-        ),
+        SuperBlockRead::Read(block, _) => {
+            let root = block.root_group_object_header_address;
+            let offsets = block.size_of_offsets as u64;
+            let lengths = block.size_of_lengths as u64;
+            check_data_object(file, root, offsets, lengths, block.end_of_file_address)
+        }
     }
 }

@@ -82,7 +82,8 @@ fn put_end(out: &mut [u8], at: usize, next: u64, entries: u64) -> usize
     text::put_field(out, at, true, entries, b'\n')
 }
 
-fn put_refused(out: &mut [u8], n: u64) -> usize
+// The line of a refusal, put at the start of out.
+pub fn put_refused(out: &mut [u8], n: u64) -> usize
     requires { ⌜ 29 ≤ length (now out) ⌝ }
     ensures { λ r. ⌜ Wrote (now (out .entry)) 0 (now (out .exit)) r (refusedOf n) ⌝ }
 {

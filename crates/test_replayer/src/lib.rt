@@ -11,6 +11,7 @@ use helpers::le_u8;
 use helpers::le_u64;
 use listing_text::list;
 use listing_text::list_header;
+use listing_text::put_refused;
 use lookup3::lookup3;
 use row::ROW_WORDS;
 use test_report::ends;
@@ -104,8 +105,7 @@ fn put_checked(out: &mut [u8], answer: CheckAnswer) -> usize
         CheckAnswer::Passed(figures) => put_passed(out, figures),
         CheckAnswer::Refused(refusal) => {
             let number = refusal.number();
-            let at = text::put_text(out, 0, b"refused,");
-            text::put_field(out, at, true, number, b'\n')
+            put_refused(out, number)
         }
     }
 }

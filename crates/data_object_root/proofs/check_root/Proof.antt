@@ -13,11 +13,11 @@ enum-known-refusal c = search needs
 enum-known-block : tie.Need-enum-known-block
 enum-known-block c = search needs
 
-cast-check-data-object : tie.Need-cast-check-data-object
-cast-check-data-object c = search needs
+cast-offsets : tie.Need-cast-offsets
+cast-offsets c = search needs
 
-cast-check-data-object-2 : tie.Need-cast-check-data-object-2
-cast-check-data-object-2 c = search needs
+cast-lengths : tie.Need-cast-lengths
+cast-lengths c = search needs
 
 check-data-object-requires : tie.Need-check-data-object-requires
 check-data-object-requires c κs = search needs
@@ -35,8 +35,8 @@ check-root-spec =
     super-block-requires
     enum-known-refusal
     enum-known-block
-    cast-check-data-object
-    cast-check-data-object-2
+    cast-offsets
+    cast-lengths
     check-data-object-requires
     returns
     returns-2)

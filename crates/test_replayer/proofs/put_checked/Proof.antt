@@ -1,6 +1,4 @@
--- Figures by their own line; of a refusal the word and the number, one after another.
-use Rattle.text.specs.Laws.{then}
-use Rattle.listing_text.specs.Listing.{refusedOf}
+-- Each case has its line: the figures, or the refusal's number.
 use Rattle.test_replayer.specs.Checks.{checkLine}
 use borrow.Author.Needs.{needs}
 use Rattle.test_replayer.proofs.put_checked.Statement.{statement}
@@ -18,14 +16,8 @@ enum-known-answer-2 c = search needs
 number-requires : tie.Need-number-requires
 number-requires c κs = search needs
 
-slice-aggregate-put-text : tie.Need-slice-aggregate-put-text
-slice-aggregate-put-text c = search needs
-
-put-text-requires : tie.Need-put-text-requires
-put-text-requires c κs = search needs
-
-put-field-requires : tie.Need-put-field-requires
-put-field-requires c κs = search needs
+put-refused-requires : tie.Need-put-refused-requires
+put-refused-requires c κs = search needs
 
 same-length : tie.Need-same-length
 same-length c = search needs
@@ -38,8 +30,8 @@ same-length-2 : tie.Need-same-length-2
 same-length-2 c = search needs
 
 returns-2 : tie.Need-returns-2
-unfolding checkLine refusedOf
-returns-2 c = rw (c .before .before .before .before .before .before .before .before .before .before .before .answer2 .given .1, ← c .before .before .before .before .before .before .before .before .before .number .ensures) (then (c .before .before .before .before .before .before .put-text .ensures) (c .before .before .put-field .ensures .0))
+unfolding checkLine
+returns-2 c = rw (c .before .before .before .before .before .before .answer2 .given .1, ← c .before .before .before .before .number .ensures) (c .before .before .put-refused .ensures)
 
 pub put-checked-spec : {M : Type 1} → statement M
 put-checked-spec =
@@ -49,9 +41,7 @@ put-checked-spec =
     put-passed-requires
     enum-known-answer-2
     number-requires
-    slice-aggregate-put-text
-    put-text-requires
-    put-field-requires
+    put-refused-requires
     same-length
     returns
     same-length-2
