@@ -18,7 +18,8 @@ use Rattle.grammar.specs.Grammar.{Item}
 use Rattle.grammar.specs.Table.{messagesOf, rowsOf}
 use Rattle.grammar.specs.TableLaws.{length-rowsOf}
 use Rattle.grammar.specs.Walk.{reached, stopped, lent}
-use Rattle.grammar.specs.Filled.{untold, filled-table}
+use Rattle.grammar.specs.WalkLaws.{same-reached}
+use Rattle.grammar.specs.Filled.{filled-table}
 use Rattle.ohdr_info.specs.Info.{linkInfo, groupInfo, attributeInfo}
 use Rattle.ohdr_storage.specs.Storage.{dataLayout}
 use Rattle.ohdr_datatype.specs.DataTypes.{dataType, typeLevels}
@@ -27,8 +28,8 @@ use Rattle.ohdr_walk.specs.declared.Progress.{Progress}
 use Rattle.ohdr_walk.specs.Code.{walkedOf}
 use Rattle.data_object_header.specs.Headers.{HeaderReading}
 use Rattle.data_object_header.specs.Passing.{passes-lent}
-use Rattle.data_object_messages.specs.Messages.{fresh, decodeOn}
-use Rattle.data_object_messages.specs.Laws.{Told, told}
+use Rattle.data_object_messages.specs.Messages.{decodeOn}
+use Rattle.data_object_messages.specs.Laws.{stops, Told, told}
 use Rattle.data_object_winners.specs.Wins.{Wins, defaults, winsOf}
 use Rattle.data_object_winners.specs.Winners.{lastIn, winner}
 use Rattle.data_object_winners.specs.WinnerLaws.{all-bodied, Won, won, space-won, type-won, link-won, group-won, info-won, layout-won}
@@ -57,12 +58,6 @@ pub record Built (file t : List ℕ) (p : Progress) (s : State) (r : DataObject)
 pub wins≡ : {v w : Wins} → v .ds ≡ w .ds → v .dt ≡ w .dt → v .li ≡ w .li → v .gi ≡ w .gi → v .ai ≡ w .ai → v .layout ≡ w .layout → v ≡ w
 wins≡ a b c d e f = λ i. record { ds = a i; dt = b i; li = c i; gi = d i; ai = e i; layout = f i }
 
-same-answer : (xs ys : List Item) (p q : ℕ) → reached xs p ≡ reached ys q → answers.Read p (length xs) ≡ answers.Read q (length ys)
-same-answer xs ys p q e =
-    let a : p ≡ q = cc in
-    let b : xs ≡ ys = cc in
-    λ i. answers.Read (a i) (length (b i))
-
 module _ (file : List ℕ) (offsets lengths end at n : ℕ) where
   -- whatever has a reading within the limits is found
   pub complete : (next : ℕ) (xs : List Item) → Readable file offsets lengths end at n next xs → decoded file offsets lengths end at n ≡ reached xs next
@@ -80,7 +75,7 @@ module _ (file : List ℕ) (offsets lengths end at n : ℕ) where
       }
     where
       d : decoded file offsets lengths end at n ≡ stopped (refusalNumber x) k
-      d = untold (fresh t) (decoded file offsets lengths end at n) (sym e)
+      d = stops file offsets lengths end at (lent (n / rowWords)) t (refusalNumber x) k e
 
       none : (next : ℕ) (xs : List Item) → Readable file offsets lengths end at n next xs → ⊥
       none next xs y = never (sym (ap counts d) ∙ ap counts (complete next xs y))
@@ -127,7 +122,7 @@ module _ (file : List ℕ) (offsets lengths end at n : ℕ) where
             answer = ap answerOut (b .answer) ∙ ap (λ (k : ℕ). found k (p .at)) (w .entries) ∙ sym (ap counts (w .reaches));
             rows = b .rows ∙ w .rows ∙ sym (ap rowsIn (w .reaches));
             meant = rw (b .answer) (record { items = w .items; readable = readable; entries = w .entries; rows = b .rows ∙ w .rows; table = cleared; records = records r b });
-            accepts = λ next xs y. b .answer ∙ ap (answers.Read (p .at)) (w .entries) ∙ same-answer (w .items) xs (p .at) next (sym (w .reaches) ∙ complete next xs y);
+            accepts = λ next xs y. b .answer ∙ ap (answers.Read (p .at)) (w .entries) ∙ same-reached (λ (ys : List Item) (q : ℕ). answers.Read q (length ys)) (sym (w .reaches) ∙ complete next xs y);
           }
 
   -- the rows that are filled are in the table

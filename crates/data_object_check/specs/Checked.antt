@@ -9,21 +9,21 @@ use Rattle.grammar.specs.Grammar.{Item}
 use Rattle.grammar.specs.Table.{messages}
 use Rattle.grammar.specs.Walk.{Went, reached, stopped, withoutTable}
 use Rattle.data_object_header.specs.Headers.{decode, Checkable}
-use Rattle.data_object_check.specs.declared.Figures.{Figures}
+use Rattle.data_object_check.specs.declared.HeaderFigures.{HeaderFigures}
 use Rattle.data_object_check.specs.declared.CheckAnswer.{CheckAnswer}
 use Rattle.data_object_check.specs.declared.CheckAnswer.the-variants as answers
 
 -- the figures of a reading: its end, its entries, and a row for each message
-abbrev pub figuresOf : ℕ → List Item → Figures
+abbrev pub figuresOf : ℕ → List Item → HeaderFigures
 figuresOf next xs = record { next = next; entries = length xs; rows = messages xs }
 
 -- figures, or the number of a refusal
-abbrev pub checkOut : CheckAnswer → Out Figures
+abbrev pub checkOut : CheckAnswer → Out HeaderFigures
 checkOut (answers.Passed f) = found f (f .next)
 checkOut (answers.Refused r) = refused (refusalNumber r)
 
--- of the definition's items
-abbrev pub figures : Went (List Item) → Out Figures
+-- the figures of the items that the definition gives, or its refusal
+abbrev pub figures : Went (List Item) → Out HeaderFigures
 figures (reached xs next) = found (figuresOf next xs) next
 figures (stopped r n) = refused r
 
@@ -34,10 +34,10 @@ module _ (file : List ℕ) (offsets lengths end at : ℕ) where
   checked = decode file offsets lengths end at withoutTable
 
   -- a header that passes: its reading, and its figures
-  pub record Passed (f : Figures) : Type 0 where
+  pub record Passed (f : HeaderFigures) : Type 0 where
     pub items : List Item
     pub checkable : Checkable file offsets lengths end at (f .next) items
-    pub figures : f ≡ figuresOf (f .next) items
+    pub told : f ≡ figuresOf (f .next) items
 
   -- by the answer; a header that is refused has no such reading
   abbrev pub Meant : CheckAnswer → Type 0

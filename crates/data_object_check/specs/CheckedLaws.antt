@@ -9,14 +9,14 @@ use Rattle.records.specs.RefusalLaws.{refusal-unique}
 use Rattle.records.specs.declared.Refusal.{Refusal}
 use Rattle.grammar.specs.Grammar.{Item}
 use Rattle.grammar.specs.Walk.{reached, stopped, withoutTable}
-use Rattle.grammar.specs.Filled.{untold}
+use Rattle.grammar.specs.WalkLaws.{same-reached}
 use Rattle.ohdr_walk.specs.declared.Progress.{Progress}
 use Rattle.ohdr_walk.specs.Code.{walkedOf}
 use Rattle.data_object_header.specs.Headers.{Checkable}
 use Rattle.data_object_header.specs.Passing.{passes-without}
-use Rattle.data_object_messages.specs.Messages.{fresh, decodeOn}
-use Rattle.data_object_messages.specs.Laws.{Told, told}
-use Rattle.data_object_check.specs.declared.Figures.{Figures}
+use Rattle.data_object_messages.specs.Messages.{decodeOn}
+use Rattle.data_object_messages.specs.Laws.{stops, Told, told}
+use Rattle.data_object_check.specs.declared.HeaderFigures.{HeaderFigures}
 use Rattle.data_object_check.specs.declared.CheckAnswer.{CheckAnswer}
 use Rattle.data_object_check.specs.declared.CheckAnswer.the-variants as answers
 use Rattle.data_object_check.specs.Checked.{figuresOf, checkOut, figures, checked, Checked}
@@ -27,12 +27,6 @@ check-answer-unique (answers.Passed f) (answers.Passed g) e = cc
 check-answer-unique (answers.Passed f) (answers.Refused y) e = never (sym e)
 check-answer-unique (answers.Refused x) (answers.Passed g) e = never e
 check-answer-unique (answers.Refused x) (answers.Refused y) e = ap answers.Refused (refusal-unique x y (cc))
-
-its : (xs ys : List Item) (p q : ℕ) → reached xs p ≡ reached ys q → figuresOf p xs ≡ figuresOf q ys
-its xs ys p q e =
-    let a : p ≡ q = cc in
-    let b : xs ≡ ys = cc in
-    λ i. figuresOf (a i) (b i)
 
 module _ (file : List ℕ) (offsets lengths end at : ℕ) where
   -- whatever has a reading is found
@@ -50,7 +44,7 @@ module _ (file : List ℕ) (offsets lengths end at : ℕ) where
         }
       where
         d : checked file offsets lengths end at ≡ stopped (refusalNumber x) n
-        d = untold (fresh t) (checked file offsets lengths end at) (sym e)
+        d = stops file offsets lengths end at withoutTable t (refusalNumber x) n e
 
         none : (next : ℕ) (xs : List Item) → Checkable file offsets lengths end at next xs → ⊥
         none next xs c = never (sym (ap figures d) ∙ ap figures (found-it next xs c))
@@ -60,15 +54,15 @@ module _ (file : List ℕ) (offsets lengths end at : ℕ) where
         → Checked file offsets lengths end at (answers.Passed (record { next = p .at; entries = p .entries; rows = p .rows }))
     passed-checked p u e =
         record {
-          answer = ap (λ (x : Figures). found x (p .at)) same ∙ sym (ap figures (w .reaches));
-          meant = record { items = w .items; checkable = passes-without file offsets lengths end at (p .at) (w .items) .0 (w .reaches); figures = same };
-          accepts = λ next xs c. ap answers.Passed (same ∙ its (w .items) xs (p .at) next (sym (w .reaches) ∙ found-it next xs c));
+          answer = ap (λ (x : HeaderFigures). found x (p .at)) same ∙ sym (ap figures (w .reaches));
+          meant = record { items = w .items; checkable = passes-without file offsets lengths end at (p .at) (w .items) .0 (w .reaches); told = same };
+          accepts = λ next xs c. ap answers.Passed (same ∙ same-reached (λ (ys : List Item) (q : ℕ). figuresOf q ys) (sym (w .reaches) ∙ found-it next xs c));
         }
       where
         w : Told file offsets lengths end at withoutTable t p u
         w = told file offsets lengths end at withoutTable t p u e
 
-        same : _≡_ {A = Figures} (record { next = p .at; entries = p .entries; rows = p .rows }) (figuresOf (p .at) (w .items))
+        same : _≡_ {A = HeaderFigures} (record { next = p .at; entries = p .entries; rows = p .rows }) (figuresOf (p .at) (w .items))
         same = λ i. record { next = p .at; entries = w .entries i; rows = w .rows i }
 
   -- a check has one answer

@@ -7,14 +7,14 @@ use records::Refusal;
 ghost use Rattle.data_object_check.specs.Checked.{Checked};
 
 // The next position, the entries read, and the rows that the messages take.
-pub struct Figures {
+pub struct HeaderFigures {
     pub next: usize,
     pub entries: usize,
     pub rows: usize,
 }
 
 pub enum CheckAnswer {
-    Passed(Figures),
+    Passed(HeaderFigures),
     Refused(Refusal),
 }
 
@@ -45,7 +45,7 @@ pub fn check_data_object(
         limits,
     ) {
         Messages::Refused(r, _) => CheckAnswer::Refused(r),
-        Messages::Read(progress, _) => CheckAnswer::Passed(Figures {
+        Messages::Read(progress, _) => CheckAnswer::Passed(HeaderFigures {
             next: progress.at,
             entries: progress.entries,
             rows: progress.rows,

@@ -5,6 +5,7 @@ use mathlib.Core.Path.{_≡_}
 use mathlib.Core.Bool.{_&&_}
 use mathlib.Core.Logic.{_↔_}
 use mathlib.Core.List.{List}
+use native.Mathlib.Omega.{arith}
 use lib.ListN.{length}
 use lib.Dec.{leb}
 use borrow.Author.Tests.{leb-true}
@@ -48,6 +49,6 @@ module _ (file : List ℕ) (offsets lengths end at : ℕ) where
   decode-beside =
       chosen (widthAllowed offsets && widthAllowed lengths) _ _ _ _
       (λ _. chosen (leb (length file) fileLimit) _ _ _ _
-      (λ _. after-read 0 (read file headerFields at) _ _ (λ f from. walk-beside (source file (stateFor offsets lengths end) (f .flags)) entryLimit 23 at (from + f .size) from))
-      both-stop)
-      both-stop
+      (λ _. after-read 0 (read file headerFields at) _ _ (omega arith) (λ f from. walk-beside (source file (stateFor offsets lengths end) (f .flags)) entryLimit 23 at (from + f .size) from))
+      (both-stop (omega arith)))
+      (both-stop (omega arith))

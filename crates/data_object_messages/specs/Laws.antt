@@ -1,4 +1,4 @@
--- The ways out of reading a header's messages, and the items of a walk that was done. Assumes nothing.
+-- The ways out of reading a header's messages, and what the definition gives where they are refused or done. Assumes nothing.
 use Prim.Native.Nat.{ℕ, _+_, _≤_, _<_}
 use mathlib.Core.Path.{_≡_, sym, ap, _∙_}
 use mathlib.Core.List.{List}
@@ -15,7 +15,7 @@ use Rattle.grammar.specs.Grammar.{Item}
 use Rattle.grammar.specs.Table.{messages, rowsOf}
 use Rattle.grammar.specs.Walk.{reached, stopped, Limits}
 use Rattle.grammar.specs.WalkLaws.{first}
-use Rattle.grammar.specs.Filled.{Walked, grown, tell, walkOn}
+use Rattle.grammar.specs.Filled.{Walked, grown, tell, untold, walkOn}
 use Rattle.ohdr_walk.specs.declared.Progress.{Progress}
 use Rattle.ohdr_walk.specs.Code.{walkedOf}
 use Rattle.ohdr_walk.specs.Sources.{source}
@@ -49,6 +49,10 @@ module _ (file : List ℕ) (offsets lengths end at : ℕ) (l : Limits) (t : List
 
     pub goes-in : length file ≤ fileLimit → headerOn file s at l t ≡ decodeOn file offsets lengths end at l t
     goes-in h = sym (ap (tell (fresh t)) (goes-on offsets lengths end file at l m h))
+
+  -- a walk that was refused
+  pub stops : (x k : ℕ) → stopped x k ≡ decodeOn file offsets lengths end at l t → decode file offsets lengths end at l ≡ stopped x k
+  stops x k e = untold (fresh t) (decode file offsets lengths end at l) (sym e)
 
   -- a walk that was done, over a table t which it leaves as u: its items, and what of them is told
   pub record Told (p : Progress) (u : List ℕ) : Type 0 where

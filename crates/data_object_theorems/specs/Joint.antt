@@ -20,7 +20,7 @@ use Rattle.grammar.specs.Walk.{Went, reached, stopped, entryLimit, lent}
 use Rattle.grammar.specs.Beside.{Beside}
 use Rattle.data_object_header.specs.Headers.{decode}
 use Rattle.data_object_header.specs.Passing.{decode-beside}
-use Rattle.data_object_check.specs.declared.Figures.{Figures}
+use Rattle.data_object_check.specs.declared.HeaderFigures.{HeaderFigures}
 use Rattle.data_object_check.specs.declared.CheckAnswer.{CheckAnswer}
 use Rattle.data_object_check.specs.declared.CheckAnswer.the-variants as checks
 use Rattle.data_object_check.specs.Checked.{figuresOf, checkOut, figures, checked, Checked}
@@ -30,22 +30,31 @@ use Rattle.data_object.specs.Decoded.{answerOut, counts, rowsIn, decoded, Decod
 use Rattle.data_object.specs.Unique.{answer-unique}
 
 -- a header that passed with these figures, filled into a table with so many rows: the same figures, or 24 where its rows exceed them, and only there
-pub record Fills (f : Figures) (rows : ℕ) (o : DataObject) : Type 0 where
+pub record Fills (f : HeaderFigures) (rows : ℕ) (o : DataObject) : Type 0 where
   pub same : f .rows ≤ rows → (o .answer ≡ answers.Read (f .next) (f .entries)) × (o .rows ≡ f .rows)
   pub exceeds : rows < f .rows → o .answer ≡ answers.Refused refusals.Table
   pub only : (x : Refusal) → o .answer ≡ answers.Refused x → (x ≡ refusals.Table) × (rows < f .rows)
 
--- a header that was refused after it took so many rows, filled into a table with so many: the same refusal, or 24 where it was full before
+-- a header that was refused after so many rows were taken, filled into a table with so many: the same refusal, or 24 where it was full before
 pub record Fails (x : Refusal) (taken rows : ℕ) (o : DataObject) : Type 0 where
   pub same : taken ≤ rows → o .answer ≡ answers.Refused x
   pub full : rows < taken → o .answer ≡ answers.Refused refusals.Table
 
 module _ (file : List ℕ) (offsets lengths end at : ℕ) where
-  -- of every table of n words, filled as o; the rows that a refused header takes, at most 4,096, are one number for all of them
+  -- A header that the check refuses as x, when so many entries were begun. The rows taken by then are one number for every table of n words, filled
+  -- as o: no more than those entries, and than 4,096.
+  pub record Refuses (x : Refusal) : Type 0 where
+    pub begun : ℕ
+    pub taken : ℕ
+    pub stops : checked file offsets lengths end at ≡ stopped (refusalNumber x) begun
+    pub before : taken ≤ begun
+    pub few : taken ≤ entryLimit
+    pub filled : (n : ℕ) (o : DataObject) (t : List ℕ) → Decoded file offsets lengths end at n o t → Fails x taken (n / rowWords) o
+
+  -- by the check's answer
   abbrev pub Joint : CheckAnswer → Type 0
   Joint (checks.Passed f) = (n : ℕ) (o : DataObject) (t : List ℕ) → Decoded file offsets lengths end at n o t → Fills f (n / rowWords) o
-  Joint (checks.Refused x) =
-      (taken : ℕ) × (taken ≤ entryLimit) × ((n : ℕ) (o : DataObject) (t : List ℕ) → Decoded file offsets lengths end at n o t → Fails x taken (n / rowWords) o)
+  Joint (checks.Refused x) = Refuses x
 
   beside : Beside entryLimit 0 0 (checked file offsets lengths end at) (λ n. decode file offsets lengths end at (lent n))
   beside = decode-beside file offsets lengths end at
@@ -85,4 +94,7 @@ module _ (file : List ℕ) (offsets lengths end at : ℕ) where
     where
       refusal : (w : Went (List Item)) → checked file offsets lengths end at ≡ w → checkOut (checks.Refused x) ≡ figures w → Joint (checks.Refused x)
       refusal (reached xs next) e i = never i
-      refusal (stopped r k) e i = let z : refusalNumber x ≡ r = cc in (beside .taken, beside .few (omega arith), λ n o t d. fails n o t d x k (e ∙ ap (λ (y : ℕ). stopped y k) (sym z)))
+      refusal (stopped r k) e i =
+          let z : refusalNumber x ≡ r = cc in
+          let j = e ∙ ap (λ (y : ℕ). stopped y k) (sym z) in
+          record { begun = k; taken = beside .taken; stops = j; before = beside .before (refusalNumber x) k j; few = beside .few (omega arith); filled = λ n o t d. fails n o t d x k j }

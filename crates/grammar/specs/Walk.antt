@@ -52,13 +52,19 @@ pub record Limits : Type 0 where
 abbrev pub entryLimit : ℕ
 entryLimit = 4096
 
--- the limits of a table with so many rows: the 4,097th entry is 23
-abbrev pub lent : ℕ → Limits
-lent rows = record { entries = entryLimit; beyond = 23; fits = λ i. ltb i rows }
+-- with so many rows, and where a message needs none
+abbrev pub within : ℕ → ℕ → ℕ → Limits
+within entries beyond rows = record { entries = entries; beyond = beyond; fits = λ i. ltb i rows }
 
--- and without a table: a message needs no row
+abbrev pub without : ℕ → ℕ → Limits
+without entries beyond = record { entries = entries; beyond = beyond; fits = λ _. true }
+
+-- the limits of a table with so many rows, and those without a table: the 4,097th entry is 23
+abbrev pub lent : ℕ → Limits
+lent rows = within entryLimit 23 rows
+
 abbrev pub withoutTable : Limits
-withoutTable = record { entries = entryLimit; beyond = 23; fits = λ _. true }
+withoutTable = without entryLimit 23
 
 -- no entry begun, no row taken
 abbrev pub start : Count

@@ -60,6 +60,13 @@ pub was-found : {A : Type 0} {a : A} {q : ℕ} (n : ℕ) (o : Out A) → begun n
 was-found n (found b m) e = cc
 was-found n (refused r) e = never e
 
+-- what is told of the items and the position that are reached
+pub same-reached : {A : Type 0} {xs ys : List Item} {p q : ℕ} (f : List Item → ℕ → A) → reached xs p ≡ reached ys q → f xs p ≡ f ys q
+same-reached {xs = xs} {ys = ys} {p = p} {q = q} f e =
+    let a : p ≡ q = cc in
+    let b : xs ≡ ys = cc in
+    λ i. f (b i) (a i)
+
 -- the items xs fit after s: no entry too many, and a row for each message
 pub record Fit (l : Limits) (s : Count) (xs : List Item) : Type 0 where
   pub few : s .entries + length xs ≤ l .entries

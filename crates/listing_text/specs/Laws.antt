@@ -19,7 +19,7 @@ use Rattle.grammar.specs.Table.{messages}
 use Rattle.grammar.specs.Walk.{Went, reached, stopped, lent, withoutTable}
 use Rattle.data_object_header.specs.Headers.{decode}
 use Rattle.data_object_header.specs.Passing.{decode-beside}
-use Rattle.data_object_check.specs.declared.Figures.{Figures}
+use Rattle.data_object_check.specs.declared.HeaderFigures.{HeaderFigures}
 use Rattle.data_object_check.specs.declared.CheckAnswer.{CheckAnswer}
 use Rattle.data_object_check.specs.declared.CheckAnswer.the-variants as checks
 use Rattle.data_object_check.specs.Checked.{checkOut, figures, Checked}
@@ -102,7 +102,7 @@ module _ (file : List ℕ) (offsets lengths end at : ℕ) where
   refusal-listed r (reached xs next) e = never e
   refusal-listed r (stopped k n) e = let z : r ≡ k = cc in ap refusedOf z
 
-  pass-listed : (f : Figures) (q : ℕ) (o : Went (List Item)) → found f q ≡ figures o → resultOf filled ≡ pairText o filled
+  pass-listed : (f : HeaderFigures) (q : ℕ) (o : Went (List Item)) → found f q ≡ figures o → resultOf filled ≡ pairText o filled
   unfolding pairText
   pass-listed f q (reached xs next) e = refl
   pass-listed f q (stopped k n) e = never (sym e)
@@ -112,7 +112,7 @@ module _ (file : List ℕ) (offsets lengths end at : ℕ) where
     unfolding headerText
     check-refused x e = refusal-listed (refusalNumber x) (decode file offsets lengths end at withoutTable) (sym (ap checkOut e) ∙ c .answer)
 
-    pub check-passed : (f : Figures) → a ≡ checks.Passed f → resultOf (decode file offsets lengths end at (lent 512)) ≡ headerText file offsets lengths end at
+    pub check-passed : (f : HeaderFigures) → a ≡ checks.Passed f → resultOf (decode file offsets lengths end at (lent 512)) ≡ headerText file offsets lengths end at
     unfolding headerText
     check-passed f e = pass-listed f (f .next) (decode file offsets lengths end at withoutTable) (sym (ap checkOut e) ∙ c .answer)
 

@@ -40,7 +40,7 @@ abbrev pub walkOut : Walk → List ℕ → Went Walked
 walkOut (answers.Done p) t = reached (walkedOf p t) (p .at)
 walkOut (answers.Refused r n) t = stopped (refusalNumber r) n
 
--- a message takes the next row; where there is none, 24
+-- a message takes the next row; where there is none, 24. Where messages are counted alone, the table has no words, and none is written
 abbrev pub rowTaken : Limits → Progress → Row → ℕ → List ℕ → Went Walked
 rowTaken l p r q t =
     choose (limitsOf l .fits (p .rows)) (λ _. reached (record { entries = p .entries + 1; rows = p .rows + 1; table = putRow t (p .rows) r }) q) (λ _. stopped 24 (p .entries + 1))

@@ -58,7 +58,8 @@ pub fn message_prefix_size(flags: u8) -> usize
     if flags & 4 != 0 { 6 } else { 4 }
 }
 
-// A message's words go into the next row, where there is one, and the walk goes on at `next`.
+// A message's words go into the next row, where there is one, and the walk goes on at `next`. Where
+// there is none it is counted alone, or refused.
 fn take_row(table: &mut [u64], limits: Limits, from: Progress, row: Row, next: usize) -> Walk
     requires { ⌜ Lends limits (now table) × (from .rows ≤ from .entries) × (from .entries < limits .entries) ⌝ }
     ensures { λ r. ⌜ walkOut r (now (table .exit)) ≡ rowTaken limits from row next (now (table .entry)) ⌝ }

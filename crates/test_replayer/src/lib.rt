@@ -1,7 +1,7 @@
 // Whether a case passes: its input has the listing, with the line of its check where it is a header,
 // the report of its header, or the sum, that is expected.
 use data_object_check::CheckAnswer;
-use data_object_check::Figures;
+use data_object_check::HeaderFigures;
 use data_object_check::check_data_object;
 use data_object_words::header_words;
 use helpers::ReadU8;
@@ -86,7 +86,7 @@ fn lists(input: &[u8], expected: &[u8]) -> bool
 }
 
 // What a check that passes tells: a word and the three figures.
-fn put_passed(out: &mut [u8], figures: Figures) -> usize
+fn put_passed(out: &mut [u8], figures: HeaderFigures) -> usize
     requires { ⌜ 71 ≤ length (now out) ⌝ }
     ensures { λ r. ⌜ Wrote (now (out .entry)) 0 (now (out .exit)) r (passedLine figures) ⌝ }
 {

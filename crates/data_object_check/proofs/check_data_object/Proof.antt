@@ -1,5 +1,4 @@
 -- The walk without a table says what the definition gives without one.
-use lib.ListN.{replicate}
 use mathlib.Core.Path.{sym}
 use Rattle.helpers.specs.Facts.{met}
 use Rattle.data_object_messages.specs.Messages.{messagesOut}
@@ -21,10 +20,10 @@ enum-known-progress : tie.Need-enum-known-progress
 enum-known-progress c = search needs
 
 returns : tie.Need-returns
-returns c = let a = (c .before .before .before .before .before .before .before .args) in let u = c .before .before .before .before .data-object-messages .last .1 .0 in refused-checked (a .file .now) (a .offset-width) (a .length-width) (a .end-of-file) (a .position) (replicate 0 0) (c .before .r .given .0 .0) (c .before .r .given .0 .1 .0) (sym (met (λ m. messagesOut m u) (c .before .before .before .before .data-object-messages .ensures .0) (c .before .r .given .1)))
+returns c = let a = (c .before .before .before .before .before .before .before .args) in let u = c .before .before .before .before .data-object-messages .last .1 .0 in refused-checked (a .file .now) (a .offset-width) (a .length-width) (a .end-of-file) (a .position) _ (c .before .r .given .0 .0) (c .before .r .given .0 .1 .0) (sym (met (λ m. messagesOut m u) (c .before .before .before .before .data-object-messages .ensures .0) (c .before .r .given .1)))
 
 returns-2 : tie.Need-returns-2
-returns-2 c = let a = (c .before .before .before .before .before .before .before .args) in let u = c .before .before .before .before .data-object-messages .last .1 .0 in passed-checked (a .file .now) (a .offset-width) (a .length-width) (a .end-of-file) (a .position) (replicate 0 0) (c .before .progress .given .0 .0) u (sym (met (λ m. messagesOut m u) (c .before .before .before .before .data-object-messages .ensures .0) (c .before .progress .given .1)))
+returns-2 c = let a = (c .before .before .before .before .before .before .before .args) in let u = c .before .before .before .before .data-object-messages .last .1 .0 in passed-checked (a .file .now) (a .offset-width) (a .length-width) (a .end-of-file) (a .position) _ (c .before .progress .given .0 .0) u (sym (met (λ m. messagesOut m u) (c .before .before .before .before .data-object-messages .ensures .0) (c .before .progress .given .1)))
 
 pub check-data-object-spec : {M : Type 1} → statement M
 check-data-object-spec =
