@@ -5,7 +5,6 @@ use mathlib.Core.Path.{_≡_}
 use Rattle.format.specs.Format.{Out, found, refused, pick}
 use Rattle.records.specs.Refusals.{refusalNumber}
 use Rattle.records.specs.Defaults.{defaultDataSpace}
-use Rattle.records.specs.declared.OptionU8.{OptionU8}
 use Rattle.records.specs.declared.Dimensions.{Dimensions}
 use Rattle.records.specs.declared.DataSpace.{DataSpace}
 use Rattle.helpers.specs.declared.Place.{Place}
@@ -13,11 +12,6 @@ use Rattle.helpers.specs.declared.Place.the-variants as places
 use Rattle.ohdr_dataspace.specs.declared.DimensionRead.{DimensionRead}
 use Rattle.ohdr_dataspace.specs.declared.DimensionRead.the-variants as dimensions
 use Rattle.ohdr_dataspace.specs.declared.DimensionsRead.{DimensionsRead}
-use Rattle.ohdr_dataspace.specs.declared.KindRead.{KindRead}
-use Rattle.ohdr_dataspace.specs.declared.KindRead.the-variants as kinds
-use Rattle.ohdr_dataspace.specs.declared.DataSpaceHeader.{DataSpaceHeader}
-use Rattle.ohdr_dataspace.specs.declared.HeaderRead.{HeaderRead}
-use Rattle.ohdr_dataspace.specs.declared.HeaderRead.the-variants as headers
 use Rattle.ohdr_dataspace.specs.declared.DataSpaceRead.{DataSpaceRead}
 use Rattle.ohdr_dataspace.specs.declared.ElementCount.{ElementCount}
 use Rattle.ohdr_dataspace.specs.declared.ElementCount.the-variants as counts
@@ -33,14 +27,6 @@ dimensionOut (dimensions.Refused r) = refused (refusalNumber r)
 
 abbrev pub dimensionsOut : DimensionsRead → Out Dimensions
 dimensionsOut r = placed (r .answer) (r .dimensions)
-
-abbrev pub kindOut : KindRead → Out OptionU8
-kindOut (kinds.Value v q) = found v q
-kindOut kinds.Short = refused 3
-
-abbrev pub headerOut : HeaderRead → Out DataSpaceHeader
-headerOut (headers.Read v q) = found v q
-headerOut (headers.Refused r) = refused (refusalNumber r)
 
 -- beside a refusal stands the default record
 abbrev pub Defaulted : Place → DataSpace → Type 0

@@ -1,7 +1,7 @@
 -- What a dataspace that stands is bounded by: at most four sizes, each at most 1,000,000. Assumes nothing.
 use Prim.Native.Nat.{ℕ, zero, suc, _+_, _≤_, _<_}
 use mathlib.Core.Path.{_≡_, refl, _∙_}
-use mathlib.Core.Bool.{Bool, true, false, _&&_, _||_}
+use mathlib.Core.Bool.{Bool, true, false, _&&_, _||_, not}
 use mathlib.Core.List.{List, [], _∷_}
 use native.Mathlib.Omega.{arith}
 use lib.Dec.{eqb, leb}
@@ -9,14 +9,15 @@ use lib.ListN.{replicate, set, getD}
 use borrow.Author.Tests.{leb-true}
 use Rattle.format.specs.Bits.{bit}
 use Rattle.format.specs.Bytes.{le, allOnes}
-use Rattle.format.specs.Format.{done, bind, Stands}
+use Rattle.format.specs.Format.{done, refuse, bind, pick, Stands}
+use Rattle.records.specs.declared.OptionU8.{OptionU8}
+use Rattle.records.specs.declared.OptionU8.the-variants as options8
 use Rattle.records.specs.declared.Dimensions.{Dimensions}
 use Rattle.records.specs.declared.DataSpace.{DataSpace}
 use Rattle.parser.specs.declared.State.{State}
-use Rattle.ohdr_dataspace.specs.declared.DataSpaceHeader.{DataSpaceHeader}
-use Rattle.ohdr_dataspace.specs.DataSpaces.{dimension, dimensionsFrom, dimensions, maximumSizes, dataSpaceOf, dataSpaceHeader, dataSpaceSizes, dataSpace}
+use Rattle.ohdr_dataspace.specs.DataSpaces.{dimension, dimensionsFrom, dimensions, maximumSizes, dataSpace1, dataSpace2, dataSpace}
 use Rattle.format.specs.Standing.{stands-bind, stands-check}
-use Rattle.ohdr_dataspace.specs.Facts.{header-bound}
+use Rattle.ohdr_dataspace.specs.Facts.{dataSpaceSizes}
 
 pub record Bounded (d : DataSpace) : Type 0 where
   pub counted : d .«dimension_size» .count ≡ d .dimensionality
@@ -65,19 +66,39 @@ module _ (file : List ℕ) (w : ℕ) where
       let b = stands-bind file (dimensionsFrom n w false 0 (replicate 4 0)) (λ sizes. done {A = Dimensions} (record { sizes = sizes; count = n })) p q d h in
       rw (← b .3 .1) (refl, sizes-small n 0 (replicate 4 0) p (b .0) (b .1) (b .2) (small-zeros 4))
 
-  sizes-bounded : (h : DataSpaceHeader) (p q : ℕ) (d : DataSpace) → h .dimensionality ≤ 4 → Stands file (dataSpaceSizes w h) p q d → Bounded d
+  sizes-bounded : (n flags : ℕ) (kind : OptionU8) (p q : ℕ) (d : DataSpace) → n ≤ 4 → Stands file (dataSpaceSizes w n flags kind) p q d → Bounded d
   unfolding dataSpaceSizes
-  sizes-bounded h p q d few r =
-      let n = h .dimensionality in
-      let M = maximumSizes n w (bit (h .flags) 0) in
-      let a = stands-bind file (dimensions n w false) (λ sizes. bind M (λ maximum. done (dataSpaceOf h sizes maximum))) p q d r in
-      let b = stands-bind file M (λ maximum. done (dataSpaceOf h (a .1) maximum)) (a .0) q d (a .3) in
+  sizes-bounded n flags kind p q d few r =
+      let a = stands-bind file (dimensions n w false) _ p q d r in
+      let b = stands-bind file (maximumSizes n w (bit flags 0)) _ (a .0) q d (a .3) in
       let c = dimensions-small n p (a .0) (a .1) (a .2) in
       rw (← b .3 .1) (record { counted = c .0; few = rw (c .0) few; small = λ i _. c .1 i })
 
+  -- the table of version 1, and that of version 2
+  table1-bounded : (p q : ℕ) (d : DataSpace) → Stands file (dataSpace1 w) p q d → Bounded d
+  unfolding dataSpace1 dataSpaceSizes
+  table1-bounded p q d h =
+      let n = le file p 1 in
+      let flags = le file (p + 1) 1 in
+      let few = stands-check file (leb n 4) 9 _ (p + 1) q d (h .1) in
+      let clear = stands-check file (not (bit flags 1)) 9 _ (p + 1 + 1) q d (few .1 .1) in
+      sizes-bounded n flags options8.None (p + 1 + 1 + 1 + 4) q d (leb-true n 4 (few .0)) (clear .1 .1 .1)
+
+  table2-bounded : (p q : ℕ) (d : DataSpace) → Stands file (dataSpace2 w) p q d → Bounded d
+  unfolding dataSpace2 dataSpaceSizes
+  table2-bounded p q d h =
+      let n = le file p 1 in
+      let few = stands-check file (leb n 4) 9 _ (p + 1) q d (h .1) in
+      sizes-bounded n (le file (p + 1) 1) (options8.Some (le file (p + 1 + 1) 1)) (p + 1 + 1 + 1) q d (leb-true n 4 (few .0)) (few .1 .1 .1)
+
 pub bounded : (file : List ℕ) (s : State) (p q : ℕ) (d : DataSpace) → Stands file (dataSpace s) p q d → Bounded d
 unfolding dataSpace
-bounded file s p q d h =
-    let w = s .«size_of_lengths» in
-    let b = stands-bind file dataSpaceHeader (dataSpaceSizes w) p q d h in
-    sizes-bounded file w (b .1) (b .0) q d (header-bound file p (b .0) (b .1) (b .2)) (b .3)
+bounded file s p q d h = go (eqb (le file p 1) 1) (eqb (le file p 1) 2) (h .1)
+  where
+    w : ℕ
+    w = s .«size_of_lengths»
+
+    go : (one two : Bool) → Stands file (pick one (dataSpace1 w) (pick two (dataSpace2 w) (refuse 9))) (p + 1) q d → Bounded d
+    go true two i = table1-bounded file w (p + 1) q d i
+    go false true i = table2-bounded file w (p + 1) q d i
+    go false false i = absurd i

@@ -1,41 +1,40 @@
 -- What the proofs of the readers and of the bounds cite. Assumes nothing.
 use Prim.Native.Nat.{ℕ, suc, _+_, _-_, _*_, _/_, _^_, _≤_, _<_}
 use mathlib.Core.Path.{_≡_, refl, ap, sym, _∙_}
-use mathlib.Core.Bool.{Bool, true, false, _&&_, _||_, not}
+use mathlib.Core.Bool.{Bool, true, false}
 use mathlib.Core.List.{List, [], _∷_, _++_}
 use native.Mathlib.Nat.{one-mul, mul-one, mul-assoc, mul-comm, le-mul-of-pos-right, le-div-iff-mul-le, div-lt-iff-lt-mul}
 use native.Mathlib.Omega.{arith}
-use lib.Dec.{eqb, leb, ltb}
+use lib.Dec.{ltb}
 use lib.ListN.{length, set, take, getD}
 use lib.Seq.{take-suc}
-use borrow.Author.Tests.{leb-true, ltb-true, ltb-false, lt-ltb, le-ltb}
+use borrow.Author.Tests.{ltb-true, ltb-false, lt-ltb, le-ltb}
 use Rattle.format.specs.Bits.{bit}
-use Rattle.format.specs.Bytes.{le}
-use Rattle.format.specs.Format.{Format, done, bind, Stands}
-use Rattle.format.specs.Standing.{stands-bind, stands-check}
+use Rattle.format.specs.Format.{Format, done, skip, bind, read}
+use Rattle.format.specs.Steps.{read-passed}
 use Rattle.records.specs.declared.OptionU8.{OptionU8}
-use Rattle.ohdr_dataspace.specs.declared.DataSpaceHeader.{DataSpaceHeader}
+use Rattle.records.specs.declared.DataSpace.{DataSpace}
 use Rattle.ohdr_dataspace.specs.declared.ElementCount.{ElementCount}
 use Rattle.ohdr_dataspace.specs.declared.ElementCount.the-variants as counts
-use Rattle.ohdr_dataspace.specs.DataSpaces.{dimension, dimensionsFrom, kind, headerFlags, headerSizes, dataSpaceHeader, product}
+use Rattle.ohdr_dataspace.specs.DataSpaces.{dimension, dimensionsFrom, dimensions, maximumSizes, product}
 use Rattle.ohdr_dataspace.specs.Answers.{countOf}
 
--- a header has at most four sizes
-same-count : (s : List ℕ) (v n p q : ℕ) (h : DataSpaceHeader) → Stands s (headerFlags v n) p q h → n ≡ h .dimensionality
-same-count s v n p q h w =
-    let flags = le s p 1 in
-    let k : OptionU8 → Format DataSpaceHeader = λ type. done {A = DataSpaceHeader} (record { dimensionality = n; flags = flags; kind = type }) in
-    let f = stands-check s (not (eqb v 1 && bit flags 1)) 9 (bind (kind v) k) (p + 1) q h (w .1) in
-    ap (λ (r : DataSpaceHeader). r .dimensionality) (stands-bind s (kind v) k (p + 1) q h (f .1) .3 .1)
+-- the reserved byte and the reserved four of version 1, at once
+pub reserved-bytes : {A : Type 0} (s : List ℕ) (F : Format A) (p : ℕ) → read s (skip 1 (skip 4 F)) p ≡ read s (skip 5 F) p
+reserved-bytes s F p = read-passed s 1 4 (skip 4 F) F (λ q. refl) p
 
-pub header-bound : (s : List ℕ) (p q : ℕ) (h : DataSpaceHeader) → Stands s dataSpaceHeader p q h → h .dimensionality ≤ 4
-unfolding dataSpaceHeader
-header-bound s p q h w =
-    let v = le s p 1 in
-    let n = le s (p + 1) 1 in
-    let a = stands-check s (eqb v 1 || eqb v 2) 9 (headerSizes v) (p + 1) q h (w .1) in
-    let b = stands-check s (leb n 4) 9 (headerFlags v n) (p + 1 + 1) q h (a .1 .1) in
-    rw (← same-count s v n (p + 1 + 1) q h (b .1)) (leb-true n 4 (b .0))
+-- the lines that both tables end with: the sizes, the maximum sizes, and the record with what stands before them
+unfoldable pub dataSpaceSizes : (w dimensionality flags : ℕ) (kind : OptionU8) → Format DataSpace
+dataSpaceSizes w dimensionality flags kind =
+    bind (dimensions dimensionality w false) (λ sizes.
+    bind (maximumSizes dimensionality w (bit flags 0)) (λ maximum.
+    done {A = DataSpace} (record {
+      dimensionality = dimensionality;
+      flags = flags;
+      kind = kind;
+      «dimension_size» = sizes;
+      «dimension_max_size» = maximum;
+    })))
 
 -- the sizes from place i on: none left, and one more
 pub dimensionsFrom-none : (n i w : ℕ) (maximum : Bool) (sizes : List ℕ) → n ≤ i → dimensionsFrom (n - i) w maximum i sizes ≡ done sizes

@@ -14,15 +14,13 @@ use records::Dimensions;
 use records::OptionU8;
 use records::Refusal;
 ghost use mathlib.Core.Path.{_≡_};
-ghost use mathlib.Core.Bool.{_&&_, _||_};
 ghost use Prim.Native.Nat.{ℕ, _*_, _≤_};
-ghost use lib.Dec.{eqb};
-ghost use Rattle.format.specs.Bits.{bit};
 ghost use Rattle.format.specs.Format.{read, refused};
 ghost use Rattle.records.specs.Refusals.{refusalNumber};
 ghost use Rattle.parser.specs.States.{Widths};
-ghost use Rattle.ohdr_dataspace.specs.DataSpaces.{dimension as dimensionFormat, dimensions as dimensionsFormat, kind as kindFormat, maximumSizes, dataSpaceHeader, dataSpaceSizes, dataSpace, elements as elementsOf};
-ghost use Rattle.ohdr_dataspace.specs.Answers.{dimensionOut, dimensionsOut, kindOut, headerOut, Defaulted, dataSpaceOut, countOf};
+ghost use Rattle.ohdr_dataspace.specs.DataSpaces.{dimension as dimensionFormat, dimensions as dimensionsFormat, maximumSizes, dataSpace1, dataSpace2, dataSpace, elements as elementsOf};
+ghost use Rattle.ohdr_dataspace.specs.Answers.{dimensionOut, dimensionsOut, Defaulted, dataSpaceOut, countOf};
+ghost use Rattle.ohdr_dataspace.specs.Facts.{dataSpaceSizes};
 
 // One size, and the position after it.
 pub enum DimensionRead {
@@ -34,23 +32,6 @@ pub enum DimensionRead {
 pub struct DimensionsRead {
     pub answer: Place,
     pub dimensions: Dimensions,
-}
-
-pub enum KindRead {
-    Value(OptionU8, usize),
-    Short,
-}
-
-// What stands before the sizes.
-pub struct DataSpaceHeader {
-    pub dimensionality: u8,
-    pub flags: u8,
-    pub kind: OptionU8,
-}
-
-pub enum HeaderRead {
-    Read(DataSpaceHeader, usize),
-    Refused(Refusal),
 }
 
 pub struct DataSpaceRead {
@@ -118,72 +99,6 @@ fn dimensions(file: &[u8], at: usize, count: u8, width: usize, maximum: bool) ->
     }
 }
 
-// Reserved bytes in version 1, the kind in version 2.
-fn kind(file: &[u8], at: usize, version: u8) -> KindRead
-    ensures { λ r. ⌜ kindOut r ≡ read (now (file .entry)) (kindFormat version) at ⌝ }
-{
-    if version == 1 {
-        let Taken::At(next) = take(file, at, 5) else {
-            return KindRead::Short;
-        };
-        return KindRead::Value(OptionU8::None, next);
-    }
-    let ReadU8::Value(value, next) = le_u8(file, at) else {
-        return KindRead::Short;
-    };
-    KindRead::Value(OptionU8::Some(value), next)
-}
-
-fn known_version(version: u8) -> bool
-    ensures { λ r. ⌜ r ≡ (eqb version 1 || eqb version 2) ⌝ }
-{
-    version == 1 || version == 2
-}
-
-// Permutation indices follow, which only version 1 has.
-fn permuted(version: u8, flags: u8) -> bool
-    ensures { λ r. ⌜ r ≡ (eqb version 1 && bit flags 1) ⌝ }
-{
-    if version != 1 {
-        return false;
-    }
-    flags & 2 != 0
-}
-
-fn data_space_header(file: &[u8], at: usize) -> HeaderRead
-    ensures { λ r. ⌜ headerOut r ≡ read (now (file .entry)) dataSpaceHeader at ⌝ }
-{
-    let ReadU8::Value(version, dimensionality_at) = le_u8(file, at) else {
-        return HeaderRead::Refused(Refusal::Short);
-    };
-    if !known_version(version) {
-        return HeaderRead::Refused(Refusal::DataSpace);
-    }
-    let ReadU8::Value(dimensionality, flags_at) = le_u8(file, dimensionality_at) else {
-        return HeaderRead::Refused(Refusal::Short);
-    };
-    if 4 < dimensionality {
-        return HeaderRead::Refused(Refusal::DataSpace);
-    }
-    let ReadU8::Value(flags, kind_at) = le_u8(file, flags_at) else {
-        return HeaderRead::Refused(Refusal::Short);
-    };
-    if permuted(version, flags) {
-        return HeaderRead::Refused(Refusal::DataSpace);
-    }
-    let KindRead::Value(kind, next) = kind(file, kind_at, version) else {
-        return HeaderRead::Refused(Refusal::Short);
-    };
-    HeaderRead::Read(
-        DataSpaceHeader {
-            dimensionality,
-            flags,
-            kind,
-        },
-        next,
-    )
-}
-
 // The maximum sizes, or none.
 fn maximum_sizes(file: &[u8], at: usize, count: u8, width: usize, present: bool) -> DimensionsRead
     requires { ⌜ (count ≤ 4) × (width ≤ 8) ⌝ }
@@ -209,42 +124,90 @@ fn no_data_space(r: Refusal) -> DataSpaceRead
     }
 }
 
-// What stands after the header.
-fn data_space_sizes(file: &[u8], at: usize, header: DataSpaceHeader, width: usize) -> DataSpaceRead
-    requires { ⌜ (header .dimensionality ≤ 4) × (width ≤ 8) ⌝ }
-    ensures { λ r. ⌜ dataSpaceOut r ≡ read (now (file .entry)) (dataSpaceSizes width header) at ⌝ }
+// The sizes and the maximum sizes, with which both versions end.
+fn data_space_sizes(
+    file: &[u8],
+    at: usize,
+    dimensionality: u8,
+    flags: u8,
+    kind: OptionU8,
+    width: usize,
+) -> DataSpaceRead
+    requires { ⌜ (dimensionality ≤ 4) × (width ≤ 8) ⌝ }
+    ensures { λ r. ⌜ dataSpaceOut r ≡ read (now (file .entry)) (dataSpaceSizes width dimensionality flags kind) at ⌝ }
     ensures { λ r. ⌜ Defaulted (r .answer) (r .«data_space») ⌝ }
 {
-    let sizes = dimensions(file, at, header.dimensionality, width, false);
+    let sizes = dimensions(file, at, dimensionality, width, false);
     let sizes_end = sizes.answer;
     let maximum_at = match sizes_end {
         Place::At(next) => next,
-        Place::Refused(r) => {
-            return no_data_space(r);
-        }
+        Place::Refused(r) => return no_data_space(r),
     };
-    let present = header.flags & 1 != 0;
-    let maximum = maximum_sizes(file, maximum_at, header.dimensionality, width, present);
+    let present = flags & 1 != 0;
+    let maximum = maximum_sizes(file, maximum_at, dimensionality, width, present);
     let maximum_end = maximum.answer;
     let end = match maximum_end {
         Place::At(next) => next,
-        Place::Refused(r) => {
-            return no_data_space(r);
-        }
+        Place::Refused(r) => return no_data_space(r),
     };
     let dimension_size = sizes.dimensions;
     let dimension_max_size = maximum.dimensions;
-    let kind = header.kind;
     DataSpaceRead {
         answer: Place::At(end),
         data_space: DataSpace {
             dimension_size,
             dimension_max_size,
-            dimensionality: header.dimensionality,
-            flags: header.flags,
+            dimensionality,
+            flags,
             kind,
         },
     }
+}
+
+// Version 1, after its version byte.
+fn data_space_1(file: &[u8], at: usize, width: usize) -> DataSpaceRead
+    requires { ⌜ width ≤ 8 ⌝ }
+    ensures { λ r. ⌜ dataSpaceOut r ≡ read (now (file .entry)) (dataSpace1 width) at ⌝ }
+    ensures { λ r. ⌜ Defaulted (r .answer) (r .«data_space») ⌝ }
+{
+    let ReadU8::Value(dimensionality, flags_at) = le_u8(file, at) else {
+        return no_data_space(Refusal::Short);
+    };
+    if 4 < dimensionality {
+        return no_data_space(Refusal::DataSpace);
+    }
+    let ReadU8::Value(flags, reserved_at) = le_u8(file, flags_at) else {
+        return no_data_space(Refusal::Short);
+    };
+    if flags & 2 != 0 {
+        return no_data_space(Refusal::DataSpace);
+    }
+    let Taken::At(sizes_at) = take(file, reserved_at, 5) else {
+        return no_data_space(Refusal::Short);
+    };
+    data_space_sizes(file, sizes_at, dimensionality, flags, OptionU8::None, width)
+}
+
+// Version 2, after its version byte.
+fn data_space_2(file: &[u8], at: usize, width: usize) -> DataSpaceRead
+    requires { ⌜ width ≤ 8 ⌝ }
+    ensures { λ r. ⌜ dataSpaceOut r ≡ read (now (file .entry)) (dataSpace2 width) at ⌝ }
+    ensures { λ r. ⌜ Defaulted (r .answer) (r .«data_space») ⌝ }
+{
+    let ReadU8::Value(dimensionality, flags_at) = le_u8(file, at) else {
+        return no_data_space(Refusal::Short);
+    };
+    if 4 < dimensionality {
+        return no_data_space(Refusal::DataSpace);
+    }
+    let ReadU8::Value(flags, kind_at) = le_u8(file, flags_at) else {
+        return no_data_space(Refusal::Short);
+    };
+    let ReadU8::Value(value, sizes_at) = le_u8(file, kind_at) else {
+        return no_data_space(Refusal::Short);
+    };
+    let kind = OptionU8::Some(value);
+    data_space_sizes(file, sizes_at, dimensionality, flags, kind, width)
 }
 
 // A refusal comes with the default record.
@@ -253,11 +216,13 @@ pub fn message_data_space(file: &[u8], at: usize, state: State) -> DataSpaceRead
     ensures { λ r. ⌜ dataSpaceOut r ≡ read (now (file .entry)) (dataSpace state) at ⌝ }
     ensures { λ r. ⌜ Defaulted (r .answer) (r .«data_space») ⌝ }
 {
-    match data_space_header(file, at) {
-        HeaderRead::Read(header, next) => {
-            data_space_sizes(file, next, header, state.size_of_lengths)
-        }
-        HeaderRead::Refused(r) => no_data_space(r),
+    let ReadU8::Value(version, next) = le_u8(file, at) else {
+        return no_data_space(Refusal::Short);
+    };
+    match version {
+        1 => data_space_1(file, next, state.size_of_lengths),
+        2 => data_space_2(file, next, state.size_of_lengths),
+        _ => no_data_space(Refusal::DataSpace),
     }
 }
 

@@ -7,20 +7,21 @@ use mathlib.Core.List.{List, [], _∷_}
 use native.Mathlib.Omega.{arith}
 use lib.Dec.{eqb, leb}
 use lib.ListN.{length, replicate, set}
-use borrow.Author.Tests.{eqb-true, eq-eqb, le-leb}
+use borrow.Author.Tests.{eq-eqb, le-leb}
 use Rattle.format.specs.Bits.{bit}
 use Rattle.format.specs.Bytes.{le, allOnes}
 use Rattle.format.specs.Format.{Format, done, refuse, number, bind, pick, Stands}
 use Rattle.format.specs.Laws.{unique}
 use Rattle.format.specs.Standing.{stands-bind, stands-check, bind-stands}
+use Rattle.records.specs.declared.OptionU8.{OptionU8}
 use Rattle.records.specs.declared.OptionU8.the-variants as options8
 use Rattle.records.specs.Defaults.{noDimensions}
 use Rattle.records.specs.declared.Dimensions.{Dimensions}
 use Rattle.records.specs.declared.DataSpace.{DataSpace}
 use Rattle.parser.specs.declared.State.{State}
-use Rattle.ohdr_dataspace.specs.declared.DataSpaceHeader.{DataSpaceHeader}
-use Rattle.ohdr_dataspace.specs.DataSpaces.{dimension, dimensionsFrom, dimensions, kind, dataSpaceHeader, maximumSizes, dataSpaceOf, dataSpaceSizes, dataSpace}
+use Rattle.ohdr_dataspace.specs.DataSpaces.{dimension, dimensionsFrom, dimensions, maximumSizes, dataSpace1, dataSpace2, dataSpace}
 use Rattle.ohdr_dataspace.specs.DataSpaces as spaces
+use Rattle.ohdr_dataspace.specs.Facts.{dataSpaceSizes}
 use Rattle.standard.specs.Fields.{many}
 use Rattle.standard.specs.Tie.{Every}
 use Rattle.standard.specs.Versions.{byVersion, marked}
@@ -85,20 +86,17 @@ module _ (s : List ℕ) (w : ℕ) where
       dimensions-read n true p q (b .1) (rw (b .3 .0) at (b .2)) d
   maximum-read n false p q x h a = (noDimensions, (h .0, refl))
 
-  -- what stands after the header
-  rest-read : (h : DataSpaceHeader) (p m q : ℕ) (ns : List ℕ) (x : Stored) → Stands s (many (h .dimensionality) (number w done)) p m ns
-      → Stands s (storedSizes (bit (h .flags) 0) (h .dimensionality) w) m q x → Every (λ n. n ≤ 1000000) ns → EachStored (λ n. (n ≤ 1000000) ⊎ (n ≡ allOnes w)) x
-      → Reads (dataSpaceSizes w h) p q
+  -- the sizes and the maximum sizes
+  rest-read : (dimensionality flags : ℕ) (kind : OptionU8) (p m q : ℕ) (ns : List ℕ) (x : Stored) → Stands s (many dimensionality (number w done)) p m ns
+      → Stands s (storedSizes (bit flags 0) dimensionality w) m q x → Every (λ n. n ≤ 1000000) ns → EachStored (λ n. (n ≤ 1000000) ⊎ (n ≡ allOnes w)) x
+      → Reads (dataSpaceSizes w dimensionality flags kind) p q
   unfolding dataSpaceSizes
-  rest-read h p m q ns x i j a b =
-      let n = h .dimensionality in
-      let M = maximumSizes n w (bit (h .flags) 0) in
+  rest-read n flags kind p m q ns x i j a b =
       let d = dimensions-read n false p m ns i (every (size-allowed w) ns a) in
-      let e = maximum-read n (bit (h .flags) 0) m q x j (stored-allowed x b) in
-      let r = dataSpaceOf h (d .0) (e .0) in (
+      let e = maximum-read n (bit flags 0) m q x j (stored-allowed x b) in
+      let r : DataSpace = record { dimensionality = n; flags = flags; kind = kind; «dimension_size» = d .0; «dimension_max_size» = e .0 } in (
         r,
-        bind-stands s (dimensions n w false) (λ sizes. bind M (λ maximum. done (dataSpaceOf h sizes maximum))) p m q (d .0) r (d .1)
-            (bind-stands s M (λ maximum. done (dataSpaceOf h (d .0) maximum)) m q q (e .0) r (e .1) (refl, refl)),
+        bind-stands s (dimensions n w false) _ p m q (d .0) r (d .1) (bind-stands s (maximumSizes n w (bit flags 0)) _ m q q (e .0) r (e .1) (refl, refl)),
       )
     where
       stored-allowed : (x : Stored) → EachStored (λ n. (n ≤ 1000000) ⊎ (n ≡ allOnes w)) x → EachStored (λ n. allowed w true n ≡ true) x
@@ -115,25 +113,21 @@ module _ (s : List ℕ) (w : ℕ) where
       absurd (omega arith)
   none-stored false n p q x h e = (refl, h .0)
 
-  -- the header, in version 1 and in version 2
-  header1-read : (p : ℕ) → p + 1 ≤ length s → le s p 1 ≡ 1 → p + 1 + 1 ≤ length s → le s (p + 1) 1 ≤ 4 → p + 1 + 1 + 1 ≤ length s → bit (le s (p + 1 + 1) 1) 1 ≡ false
-      → p + 1 + 1 + 1 + 1 + 4 ≤ length s
-      → Stands s dataSpaceHeader p (p + 1 + 1 + 1 + 1 + 4) (record { dimensionality = le s (p + 1) 1; flags = le s (p + 1 + 1) 1; kind = options8.None })
-  unfolding dataSpaceHeader kind bind
-  header1-read p a v b n c f d = (a, rw v (b, rw (le-leb (le s (p + 1) 1) 4 n) (c, rw f (omega arith, (omega arith, refl)))))
+  -- our tables: what stands before the sizes, and the sizes
+  table1-stands : (p q : ℕ) (d : DataSpace) → p + 1 ≤ length s → le s p 1 ≤ 4 → p + 1 + 1 ≤ length s → bit (le s (p + 1) 1) 1 ≡ false → p + 1 + 1 + 1 ≤ length s → p + 1 + 1 + 1 + 4 ≤ length s
+      → Stands s (dataSpaceSizes w (le s p 1) (le s (p + 1) 1) options8.None) (p + 1 + 1 + 1 + 4) q d → Stands s (dataSpace1 w) p q d
+  unfolding dataSpace1 dataSpaceSizes
+  table1-stands p q d a n b f c e h = (a, rw (le-leb (le s p 1) 4 n) (b, rw f (c, (e, h))))
 
-  header2-read : (p : ℕ) → p + 1 ≤ length s → le s p 1 ≡ 2 → p + 1 + 1 ≤ length s → le s (p + 1) 1 ≤ 4 → p + 1 + 1 + 1 ≤ length s → p + 1 + 1 + 1 + 1 ≤ length s
-      → Stands s dataSpaceHeader p (p + 1 + 1 + 1 + 1) (record { dimensionality = le s (p + 1) 1; flags = le s (p + 1 + 1) 1; kind = options8.Some (le s (p + 1 + 1 + 1) 1) })
-  unfolding dataSpaceHeader kind bind
-  header2-read p a v b n c d = (a, rw v (b, rw (le-leb (le s (p + 1) 1) 4 n) (c, (d, (refl, refl)))))
+  table2-stands : (p q : ℕ) (d : DataSpace) → p + 1 ≤ length s → le s p 1 ≤ 4 → p + 1 + 1 ≤ length s → p + 1 + 1 + 1 ≤ length s
+      → Stands s (dataSpaceSizes w (le s p 1) (le s (p + 1) 1) (options8.Some (le s (p + 1 + 1) 1))) (p + 1 + 1 + 1) q d → Stands s (dataSpace2 w) p q d
+  unfolding dataSpace2 dataSpaceSizes
+  table2-stands p q d a n b c h = (a, rw (le-leb (le s p 1) 4 n) (b, (c, h)))
 
-  -- header and sizes
-  whole-read : (p m q : ℕ) (h : DataSpaceHeader) → Stands s dataSpaceHeader p m h → Reads (dataSpaceSizes w h) m q → Reads (bind dataSpaceHeader (dataSpaceSizes w)) p q
-  whole-read p m q h i r = (r .0, bind-stands s dataSpaceHeader (dataSpaceSizes w) p m q h (r .0) i (r .1))
-
-  version1-read : (p q : ℕ) (x : Dataspace1) → Stands s (dataspace1 w) p q x → ReadSpace w (version-1 x) → Reads (bind dataSpaceHeader (dataSpaceSizes w)) p q
+  -- the table of version 1, and that of version 2
+  table1-read : (p q : ℕ) (x : Dataspace1) → Stands s (dataspace1 w) p q x → ReadSpace w (version-1 x) → Reads (dataSpace1 w) (p + 1) q
   unfolding dataspace1
-  version1-read p q x h r =
+  table1-read p q x h r =
       let n = le s (p + 1) 1 in
       let flags = le s (p + 1 + 1) 1 in
       let c = stands-check s (eqb (le s p 1) 1) 0 _ (p + 1) q x (h .1) in
@@ -143,42 +137,47 @@ module _ (s : List ℕ) (w : ℕ) where
       let a = rw (← g .3 .1) at r in
       let e = none-stored (bit flags 1) n (d .0) (g .0) (g .1) (g .2) (a .no-permutation) in
       let u : d .0 ≡ q = omega (arith, e .1, g .3 .0) in
-      whole-read p (p + 1 + 1 + 1 + 1 + 4) q _
-      (header1-read p (h .0) (eqb-true (le s p 1) 1 (c .0)) (c .1 .0) (a .few) (c .1 .1 .0) (e .0) (c .1 .1 .1 .1 .0))
-      (rest-read _ (p + 1 + 1 + 1 + 1 + 4) (b .0) q (b .1) (d .1) (b .2) (rw u at (d .2)) (a .sizes) (a .maximum-sizes))
+      let m = rest-read n flags options8.None (p + 1 + 1 + 1 + 1 + 4) (b .0) q (b .1) (d .1) (b .2) (rw u at (d .2)) (a .sizes) (a .maximum-sizes) in
+      (m .0, table1-stands (p + 1) q (m .0) (c .1 .0) (a .few) (c .1 .1 .0) (e .0) (c .1 .1 .1 .0) (c .1 .1 .1 .1 .0) (m .1))
 
-  version2-read : (p q : ℕ) (x : Dataspace2) → Stands s (dataspace2 w) p q x → ReadSpace w (version-2 x) → Reads (bind dataSpaceHeader (dataSpaceSizes w)) p q
+  table2-read : (p q : ℕ) (x : Dataspace2) → Stands s (dataspace2 w) p q x → ReadSpace w (version-2 x) → Reads (dataSpace2 w) (p + 1) q
   unfolding dataspace2
-  version2-read p q x h r =
+  table2-read p q x h r =
       let n = le s (p + 1) 1 in
       let flags = le s (p + 1 + 1) 1 in
       let c = stands-check s (eqb (le s p 1) 2) 0 _ (p + 1) q x (h .1) in
       let b = stands-bind s (many n (number w done)) _ (p + 1 + 1 + 1 + 1) q x (c .1 .1 .1 .1) in
       let d = stands-bind s (storedSizes (bit flags 0) n w) _ (b .0) q x (b .3) in
       let a = rw (← d .3 .1) at r in
-      whole-read p (p + 1 + 1 + 1 + 1) q _
-      (header2-read p (h .0) (eqb-true (le s p 1) 2 (c .0)) (c .1 .0) (a .few) (c .1 .1 .0) (c .1 .1 .1 .0))
-      (rest-read _ (p + 1 + 1 + 1 + 1) (b .0) q (b .1) (d .1) (b .2) (rw (d .3 .0) at (d .2)) (a .sizes) (a .maximum-sizes))
+      let m = rest-read n flags (options8.Some (le s (p + 1 + 1 + 1) 1)) (p + 1 + 1 + 1 + 1) (b .0) q (b .1) (d .1) (b .2) (rw (d .3 .0) at (d .2)) (a .sizes) (a .maximum-sizes) in
+      (m .0, table2-stands (p + 1) q (m .0) (c .1 .0) (a .few) (c .1 .1 .0) (c .1 .1 .1 .0) (m .1))
 
-  message-read : (p q : ℕ) (x : Dataspace) → Stands s (dataspaceMessage w) p q x → ReadSpace w x → Reads (bind dataSpaceHeader (dataSpaceSizes w)) p q
-  unfolding dataspaceMessage byVersion marked
-  message-read p q x h r = go (eqb (h .1) 1) (eqb (h .1) 2) (h .3)
-    where
-      go : (a b : Bool) → Stands s (pick a (marked version-1 (dataspace1 w)) (pick b (marked version-2 (dataspace2 w)) (refuse 0))) p q x → Reads (bind dataSpaceHeader (dataSpaceSizes w)) p q
-      go true b i =
-          let c = stands-bind s (dataspace1 w) (λ y. done (version-1 y)) p q x i in
-          version1-read p q (c .1) (rw (c .3 .0) at (c .2)) (rw (← c .3 .1) at r)
-      go false true i =
-          let c = stands-bind s (dataspace2 w) (λ y. done (version-2 y)) p q x i in
-          version2-read p q (c .1) (rw (c .3 .0) at (c .2)) (rw (← c .3 .1) at r)
-      go false false i = absurd i
+-- the version, and the table of that version
+message-read : (s : List ℕ) (state : State) (p q : ℕ) (x : Dataspace) → Stands s (dataspaceMessage (state .«size_of_lengths»)) p q x → ReadSpace (state .«size_of_lengths») x
+    → Reads s (state .«size_of_lengths») (dataSpace state) p q
+unfolding dataSpace dataspaceMessage byVersion marked
+message-read s state p q x h r = go (eqb (h .1) 1) (eqb (h .1) 2) refl refl (h .3)
+  where
+    w : ℕ
+    w = state .«size_of_lengths»
+
+    go : (one two : Bool) → eqb (h .1) 1 ≡ one → eqb (h .1) 2 ≡ two → Stands s (pick one (marked version-1 (dataspace1 w)) (pick two (marked version-2 (dataspace2 w)) (refuse 0))) p q x
+        → Reads s w (dataSpace state) p q
+    go true two e f i =
+        let c = stands-bind s (dataspace1 w) (λ y. done (version-1 y)) p q x i in
+        let d = table1-read s w p q (c .1) (rw (c .3 .0) at (c .2)) (rw (← c .3 .1) at r) in
+        (d .0, (h .2 .0, rw (h .2 .1 .1, e) (d .1)))
+    go false true e f i =
+        let c = stands-bind s (dataspace2 w) (λ y. done (version-2 y)) p q x i in
+        let d = table2-read s w p q (c .1) (rw (c .3 .0) at (c .2)) (rw (← c .3 .1) at r) in
+        (d .0, (h .2 .0, rw (h .2 .1 .1, e, f) (d .1)))
+    go false false e f i = absurd i
 
 -- It has as many elements as the standard's, unless the two count them otherwise.
 pub space-read : (s : List ℕ) (state : State) (p q : ℕ) (x : Dataspace) → Stands s (dataspaceMessage (state .«size_of_lengths»)) p q x → ReadSpace (state .«size_of_lengths») x
     → (ElementsDiffer x → ⊥) → (d : DataSpace) × Stands s (dataSpace state) p q d × (spaces.elements d ≡ elements x)
-unfolding dataSpace
 space-read s state p q x h r f =
-    let d = message-read s (state .«size_of_lengths») p q x h r in
+    let d = message-read s state p q x h r in
     let y = dataspace-tied state .ties s p q (d .0) (d .1) in
     let e = unique s (dataspaceMessage (state .«size_of_lengths»)) p q q (y .value) x (y .stands) h .1 in
     let i : SameDataspace (d .0) x = rw e at (y .related) in

@@ -8,19 +8,19 @@ use native.Mathlib.Omega.{arith}
 use lib.ListN.{length, take, drop, set, replicate}
 use lib.Seq.{sets, sets-eq, take-append-seam}
 use lib.Dec.{eqb, leb}
-use borrow.Author.Tests.{eqb-true, eq-eqb, ne-eqb, leb-true, not-true}
+use borrow.Author.Tests.{leb-true, not-true}
 use Rattle.format.specs.Bits.{bit}
-use Rattle.format.specs.Bytes.{le, allOnes}
-use Rattle.format.specs.Format.{Format, done, refuse, number, bind, check, pick}
+use Rattle.format.specs.Bytes.{allOnes}
+use Rattle.format.specs.Format.{Format, done, number, bind}
 use Rattle.records.specs.Defaults.{noDimensions}
 use Rattle.records.specs.declared.OptionU8.the-variants as options8
 use Rattle.records.specs.declared.Dimensions.{Dimensions}
 use Rattle.records.specs.declared.DataSpace.{DataSpace}
 use Rattle.parser.specs.declared.State.{State}
-use Rattle.ohdr_dataspace.specs.DataSpaces.{dimension, dimensionsFrom, dimensions, kind, headerFlags, headerSizes, dataSpaceHeader, maximumSizes, dataSpaceSizes, dataSpace}
-use Rattle.standard.specs.Fields.{only, many}
-use Rattle.standard.specs.Tie.{Tied, tied-done, tied-number, tied-skip-number, tied-split, tied-check, tied-only, tied-bind, tied-more, tied-after, tied-bind-check}
-use Rattle.standard.specs.Versions.{marked, tied-by-version, tied-marked}
+use Rattle.ohdr_dataspace.specs.DataSpaces.{dimension, dimensionsFrom, dimensions, maximumSizes, dataSpace1, dataSpace2, dataSpace}
+use Rattle.standard.specs.Fields.{many}
+use Rattle.standard.specs.Tie.{Tied, tied-done, tied-number, tied-skip-number, tied-check, tied-bind, tied-more, tied-after}
+use Rattle.standard.specs.Versions.{ofVersion, marked, tied-of-version, tied-version, tied-marked}
 use Rattle.standard.specs.Dataspaces.{Stored, not-stored, stored, storedSizes, Dataspace1, dataspace1, Dataspace2, dataspace2, Dataspace, version-1, version-2, dataspaceMessage}
 
 -- the sizes of the dimensions
@@ -40,6 +40,7 @@ pub record SameDataspace1 (ours : DataSpace) (theirs : Dataspace1) : Type 0 wher
   pub no-type : ours .kind ≡ options8.None
   pub dimension-size : SameSizes (ours .«dimension_size») (theirs .dimension-size)
   pub dimension-maximum-size : SameMaximum (ours .«dimension_max_size») (theirs .dimension-maximum-size)
+  pub no-permutation-index : theirs .permutation-index ≡ not-stored
 
 -- version 2; reserved bits of the flags are kept (entry 25), and the type is not tested (26)
 pub record SameDataspace2 (ours : DataSpace) (theirs : Dataspace2) : Type 0 where
@@ -94,87 +95,39 @@ none-stored : {A B : Type 0} {R : A → B → Type 0} (present : Bool) (n w : �
 unfolding storedSizes bind
 none-stored present n w g e t = rw e t
 
--- what follows the header, in version 1 and in version 2
-sizes1-tied : (version dimensionality flags reserved reserved-2 w : ℕ) → dimensionality ≤ 4 → bit flags 1 ≡ false
-    → Tied SameDataspace1 (dataSpaceSizes w (record { dimensionality = dimensionality; flags = flags; kind = options8.None }))
-    (bind (many dimensionality (number w done)) (λ dimension-size. bind (storedSizes (bit flags 0) dimensionality w) (λ dimension-maximum-size. bind (storedSizes (bit flags 1) dimensionality w) (λ permutation-index.
-    done {A = Dataspace1} (record { version = version; dimensionality = dimensionality; flags = flags; reserved = reserved; reserved-2 = reserved-2; dimension-size = dimension-size; dimension-maximum-size = dimension-maximum-size; permutation-index = permutation-index })))))
-unfolding dataSpaceSizes
-sizes1-tied version dimensionality flags reserved reserved-2 w h e =
-    tied-bind (dimensions-tied dimensionality w false h) (λ _ _ s.
-    tied-bind (maximum-tied dimensionality w (bit flags 0) h) (λ _ _ m.
-    none-stored (bit flags 1) dimensionality w _ e (tied-done (record { dimensionality = refl; flags = refl; no-type = refl; dimension-size = s; dimension-maximum-size = m }))))
-
-sizes2-tied : (version dimensionality flags type w : ℕ) → dimensionality ≤ 4
-    → Tied SameDataspace2 (dataSpaceSizes w (record { dimensionality = dimensionality; flags = flags; kind = options8.Some type }))
-    (bind (many dimensionality (number w done)) (λ dimension-size. bind (storedSizes (bit flags 0) dimensionality w) (λ dimension-maximum-size.
-    done {A = Dataspace2} (record { version = version; dimensionality = dimensionality; flags = flags; type = type; dimension-size = dimension-size; dimension-maximum-size = dimension-maximum-size }))))
-unfolding dataSpaceSizes
-sizes2-tied version dimensionality flags type w h =
-    tied-bind (dimensions-tied dimensionality w false h) (λ _ _ s.
-    tied-bind (maximum-tied dimensionality w (bit flags 0) h) (λ _ _ m.
-    tied-done (record { dimensionality = refl; flags = refl; type = refl; dimension-size = s; dimension-maximum-size = m })))
-
-flags-clear : (v : Bool) (b : Bool) → v ≡ true → not (v && b) ≡ true → b ≡ false
-flags-clear true b e h = not-true b h
-flags-clear false b e h = absurd (let z : _≡_ {A = ℕ} 0 1 = cc in omega arith)
-
-version1-tied : (w v : ℕ) → v ≡ 1 → Tied SameDataspace1 (number 1 (λ n. only (eqb n v) (bind (check (eqb n 1 || eqb n 2) 9 (headerSizes n)) (dataSpaceSizes w)))) (dataspace1 w)
-unfolding dataspace1 bind kind
-version1-tied w v e =
-    tied-number (λ version.
-    tied-check (eqb version v) 0 (λ d.
-    let f : eqb version 1 ≡ true = eq-eqb version 1 (eqb-true version v d ∙ e) in
-    tied-only (eqb version 1) f (
-    tied-bind-check (eqb version 1 || eqb version 2) 9 (headerSizes version) (dataSpaceSizes w) (λ _.
+pub dataspace1-tied : (w : ℕ) → Tied SameDataspace1 (ofVersion 1 (dataSpace1 w)) (dataspace1 w)
+unfolding dataSpace1 dataspace1
+dataspace1-tied w =
+    tied-of-version 1 (dataSpace1 w) _ (λ version.
     tied-number (λ dimensionality.
-    tied-bind-check (leb dimensionality 4) 9 (headerFlags version dimensionality) (dataSpaceSizes w) (λ h.
+    tied-check (leb dimensionality 4) 9 (λ d.
+    let few = leb-true dimensionality 4 d in
     tied-number (λ flags.
-    tied-bind-check (not (eqb version 1 && bit flags 1)) 9 _ (dataSpaceSizes w) (λ c.
-    rw f (tied-split 1 4 (tied-skip-number (λ reserved. tied-skip-number (λ reserved-2.
-    sizes1-tied version dimensionality flags reserved reserved-2 w (leb-true dimensionality 4 h) (flags-clear (eqb version 1) (bit flags 1) f c)))))))))))))
+    tied-check (not (bit flags 1)) 9 (λ c.
+    tied-skip-number (λ reserved.
+    tied-skip-number (λ reserved-2.
+    tied-bind (dimensions-tied dimensionality w false few) (λ _ _ s.
+    tied-bind (maximum-tied dimensionality w (bit flags 0) few) (λ _ _ m.
+    none-stored (bit flags 1) dimensionality w _ (not-true (bit flags 1) c) (
+    tied-done (record { dimensionality = refl; flags = refl; no-type = refl; dimension-size = s; dimension-maximum-size = m; no-permutation-index = refl })))))))))))
 
-version2-tied : (w v : ℕ) → v ≡ 2 → Tied SameDataspace2 (number 1 (λ n. only (eqb n v) (bind (check (eqb n 1 || eqb n 2) 9 (headerSizes n)) (dataSpaceSizes w)))) (dataspace2 w)
-unfolding dataspace2 bind kind
-version2-tied w v e =
-    tied-number (λ version.
-    tied-check (eqb version v) 0 (λ d.
-    let i : version ≡ 2 = eqb-true version v d ∙ e in
-    let f : eqb version 1 ≡ false = ne-eqb version 1 (λ z. omega arith) in
-    tied-only (eqb version 2) (eq-eqb version 2 i) (
-    tied-bind-check (eqb version 1 || eqb version 2) 9 (headerSizes version) (dataSpaceSizes w) (λ _.
+pub dataspace2-tied : (w : ℕ) → Tied SameDataspace2 (ofVersion 2 (dataSpace2 w)) (dataspace2 w)
+unfolding dataSpace2 dataspace2
+dataspace2-tied w =
+    tied-of-version 2 (dataSpace2 w) _ (λ version.
     tied-number (λ dimensionality.
-    tied-bind-check (leb dimensionality 4) 9 (headerFlags version dimensionality) (dataSpaceSizes w) (λ h.
+    tied-check (leb dimensionality 4) 9 (λ d.
+    let few = leb-true dimensionality 4 d in
     tied-number (λ flags.
-    tied-bind-check (not (eqb version 1 && bit flags 1)) 9 _ (dataSpaceSizes w) (λ c.
-    rw f (tied-number (λ type. sizes2-tied version dimensionality flags type w (leb-true dimensionality 4 h)))))))))))
-
--- no other version
-neither : {A B : Type 0} {R : A → B → Type 0} {f : ℕ → Format A} → ((n : ℕ) → Tied R (f n) (refuse 0)) → Tied R (number 1 f) (refuse 0)
-neither t = record { ties = λ s p q a h. absurd (t (le s p 1) .ties s (p + 1) q a (h .1) .stands) }
-
-not-both : (n v : ℕ) → eqb v 1 ≡ false → eqb v 2 ≡ false → eqb n v ≡ true → (eqb n 1 || eqb n 2) ≡ true → ⊥
-not-both n v e d i o =
-    let c : n ≡ v = eqb-true n v i in
-    let j : (eqb v 1 || eqb v 2) ≡ true = rw c at o in
-    let k : false ≡ true = rw (e, d) at j in
-    let z : _≡_ {A = ℕ} 0 1 = cc in omega arith
+    tied-number (λ type.
+    tied-bind (dimensions-tied dimensionality w false few) (λ _ _ s.
+    tied-bind (maximum-tied dimensionality w (bit flags 0) few) (λ _ _ m.
+    tied-done (record { dimensionality = refl; flags = refl; type = refl; dimension-size = s; dimension-maximum-size = m }))))))))
 
 pub dataspace-tied : (s : State) → Tied SameDataspace (dataSpace s) (dataspaceMessage (s .«size_of_lengths»))
-unfolding dataSpace dataSpaceHeader dataspaceMessage bind
-dataspace-tied s = tied-by-version (λ v. go v (eqb v 1) refl)
-  where
-    go : (v : ℕ) (t : Bool) → eqb v 1 ≡ t
-        → Tied SameDataspace (number 1 (λ n. only (eqb n v) (bind (check (eqb n 1 || eqb n 2) 9 (headerSizes n)) (dataSpaceSizes (s .«size_of_lengths»)))))
-        (pick t (marked version-1 (dataspace1 (s .«size_of_lengths»))) (pick (eqb v 2) (marked version-2 (dataspace2 (s .«size_of_lengths»))) (refuse 0)))
-    go v true e = tied-marked version-1 (version1-tied (s .«size_of_lengths») v (eqb-true v 1 e))
-    go v false e = second (eqb v 2) refl
-      where
-        second : (t : Bool) → eqb v 2 ≡ t
-            → Tied SameDataspace (number 1 (λ n. only (eqb n v) (bind (check (eqb n 1 || eqb n 2) 9 (headerSizes n)) (dataSpaceSizes (s .«size_of_lengths»)))))
-            (pick t (marked version-2 (dataspace2 (s .«size_of_lengths»))) (refuse 0))
-        second true d = tied-marked version-2 (version2-tied (s .«size_of_lengths») v (eqb-true v 2 d))
-        second false d =
-            neither (λ n.
-            tied-check (eqb n v) 0 (λ i.
-            tied-bind-check (eqb n 1 || eqb n 2) 9 (headerSizes n) (dataSpaceSizes (s .«size_of_lengths»)) (λ o. absurd (not-both n v e d i o))))
+unfolding dataSpace dataspaceMessage
+dataspace-tied s =
+    let w = s .«size_of_lengths» in
+    tied-version 1 (dataSpace1 w) _ (marked version-1 (dataspace1 w)) _ (tied-marked version-1 (dataspace1-tied w)) (
+    tied-version 2 (dataSpace2 w) _ (marked version-2 (dataspace2 w)) _ (tied-marked version-2 (dataspace2-tied w)) (
+    record { ties = λ _ _ _ _ h. absurd (h .1) }))

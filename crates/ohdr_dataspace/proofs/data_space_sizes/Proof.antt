@@ -1,7 +1,7 @@
 -- The sizes and the maximum sizes are each one step of the format; a refusal comes with the default.
-use Rattle.ohdr_dataspace.specs.DataSpaces.{dataSpaceSizes}
-use Rattle.format.specs.Steps.{read-bind, read-done}
 use Rattle.format.specs.Bits.{bit-test}
+use Rattle.format.specs.Steps.{read-bind, read-done}
+use Rattle.ohdr_dataspace.specs.Facts.{dataSpaceSizes}
 use borrow.Author.Needs.{needs}
 use Rattle.ohdr_dataspace.proofs.data_space_sizes.Statement.{statement}
 use Rattle.ohdr_dataspace.proofs.data_space_sizes.Tie as tie
@@ -36,11 +36,11 @@ no-data-space-requires-2 c κs = search needs
 
 returns-2 : tie.Need-returns-2
 unfolding dataSpaceSizes
-returns-2 c = (rw (read-bind, ← c .before .before .before .before .before .before .before .before .before .dimensions .ensures, c .before .before .before .before .before .before .before .sizes-end .given .1, read-bind, ← bit-test (c .before .before .before .before .before .before .before .before .before .before .before .args .header .flags) 0, ← c .before .before .before .before .maximum-sizes .ensures, c .before .before .maximum-end2 .given .1) (c .no-data-space2 .ensures .0), c .no-data-space2 .ensures .1)
+returns-2 c = (rw (read-bind, ← c .before .before .before .before .before .before .before .before .dimensions .ensures, c .before .before .before .before .before .before .sizes-end .given .1, read-bind, ← bit-test (c .before .before .before .before .before .before .before .before .before .before .args .flags) 0, ← c .before .before .before .before .maximum-sizes .ensures, c .before .before .maximum-end2 .given .1) (c .no-data-space2 .ensures .0), c .no-data-space2 .ensures .1)
 
 returns-3 : tie.Need-returns-3
 unfolding dataSpaceSizes
-returns-3 c = (rw (read-bind, ← c .before .before .before .before .before .before .before .before .before .before .dimensions .ensures, c .before .before .before .before .before .before .before .before .sizes-end .given .1, read-bind, ← bit-test (c .before .before .before .before .before .before .before .before .before .before .before .before .args .header .flags) 0, ← c .before .before .before .before .before .maximum-sizes .ensures, c .before .before .before .maximum-end .given .1, read-done), tt)
+returns-3 c = (rw (read-bind, ← c .before .before .before .before .before .before .before .before .before .dimensions .ensures, c .before .before .before .before .before .before .before .sizes-end .given .1, read-bind, ← bit-test (c .before .before .before .before .before .before .before .before .before .before .before .args .flags) 0, ← c .before .before .before .before .before .maximum-sizes .ensures, c .before .before .before .maximum-end .given .1, read-done), tt)
 
 pub data-space-sizes-spec : {M : Type 1} → statement M
 data-space-sizes-spec =
