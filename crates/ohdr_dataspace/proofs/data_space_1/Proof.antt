@@ -52,7 +52,7 @@ no-data-space-requires-4 c κs = search needs
 
 returns-4 : tie.Need-returns-4
 unfolding dataSpace1
-returns-4 c = (rw (read-number, ← c .before .before .before .before .before .before .before .before .before .before .le-u8 .ensures, c .before .before .before .before .before .before .before .before .dimensionality .given .1, le-leb _ _ (c .before .before .before .before .before .before .if1 .left), read-number, ← c .before .before .before .before .before .le-u82 .ensures, c .before .before .before .flags .given .1, bit-set _ 1 (c .before .if2 .taken), read-refuse) (c .no-data-space4 .ensures .0), c .no-data-space4 .ensures .1)
+returns-4 c = (rw (read-number, ← c .before .before .before .before .before .before .before .before .before .before .le-u8 .ensures, c .before .before .before .before .before .before .before .before .dimensionality .given .1, le-leb _ _ (c .before .before .before .before .before .before .if1 .left), read-number, ← c .before .before .before .before .before .le-u82 .ensures, c .before .before .before .flags .given .1, bit-set (c .before .before .before .flags .given .0 .0) 1 (c .before .if2 .taken), read-refuse) (c .no-data-space4 .ensures .0), c .no-data-space4 .ensures .1)
 
 take-requires : tie.Need-take-requires
 take-requires c κs = search needs
@@ -68,14 +68,14 @@ no-data-space-requires-5 c κs = search needs
 
 returns-5 : tie.Need-returns-5
 unfolding dataSpace1
-returns-5 c = (rw (read-number, ← c .before .before .before .before .before .before .before .before .before .before .before .before .before .le-u8 .ensures, c .before .before .before .before .before .before .before .before .before .before .before .dimensionality .given .1, le-leb _ _ (c .before .before .before .before .before .before .before .before .before .if1 .left), read-number, ← c .before .before .before .before .before .before .before .before .le-u82 .ensures, c .before .before .before .before .before .before .flags .given .1, bit-clear _ 1 (c .before .before .before .before .if2 .left), reserved-bytes, read-skip, ← c .before .before .before .take .ensures, c .before .enum-told3 .given .1) (c .no-data-space5 .ensures .0), c .no-data-space5 .ensures .1)
+returns-5 c = (rw (read-number, ← c .before .before .before .before .before .before .before .before .before .before .before .before .before .le-u8 .ensures, c .before .before .before .before .before .before .before .before .before .before .before .dimensionality .given .1, le-leb _ _ (c .before .before .before .before .before .before .before .before .before .if1 .left), read-number, ← c .before .before .before .before .before .before .before .before .le-u82 .ensures, c .before .before .before .before .before .before .flags .given .1, bit-clear (c .before .before .before .before .before .before .flags .given .0 .0) 1 (c .before .before .before .before .if2 .left), reserved-bytes, read-skip, ← c .before .before .before .take .ensures, c .before .enum-told3 .given .1) (c .no-data-space5 .ensures .0), c .no-data-space5 .ensures .1)
 
 data-space-sizes-requires : tie.Need-data-space-sizes-requires
 data-space-sizes-requires c κs = search needs
 
 returns-6 : tie.Need-returns-6
 unfolding dataSpace1 dataSpaceSizes
-returns-6 c = (rw (read-number, ← c .before .before .before .before .before .before .before .before .before .before .before .before .before .before .le-u8 .ensures, c .before .before .before .before .before .before .before .before .before .before .before .before .dimensionality .given .1, le-leb _ _ (c .before .before .before .before .before .before .before .before .before .before .if1 .left), read-number, ← c .before .before .before .before .before .before .before .before .before .le-u82 .ensures, c .before .before .before .before .before .before .before .flags .given .1, bit-clear _ 1 (c .before .before .before .before .before .if2 .left), reserved-bytes, read-skip, ← c .before .before .before .before .take .ensures, c .before .before .sizes-at .given .1) (c .data-space-sizes .ensures .0), c .data-space-sizes .ensures .1)
+returns-6 c = (rw (read-number, ← c .before .before .before .before .before .before .before .before .before .before .before .before .before .before .le-u8 .ensures, c .before .before .before .before .before .before .before .before .before .before .before .before .dimensionality .given .1, le-leb _ _ (c .before .before .before .before .before .before .before .before .before .before .if1 .left), read-number, ← c .before .before .before .before .before .before .before .before .before .le-u82 .ensures, c .before .before .before .before .before .before .before .flags .given .1, bit-clear (c .before .before .before .before .before .before .before .flags .given .0 .0) 1 (c .before .before .before .before .before .if2 .left), reserved-bytes, read-skip, ← c .before .before .before .before .take .ensures, c .before .before .sizes-at .given .1) (c .data-space-sizes .ensures .0), c .data-space-sizes .ensures .1)
 
 pub data-space-1-spec : {M : Type 1} → statement M
 data-space-1-spec =
