@@ -40,12 +40,12 @@ dataSpace1 size-of-lengths =
     check (leb dimensionality 4) 9 (
     number 1 (λ flags.
     check (not (bit flags 1)) 9 (
-    -- reserved
+    -- reserved: a byte, and four more
     skip 1 (
     skip 4 (
     bind (dimensions dimensionality size-of-lengths false) (λ dimension-size.
     bind (maximumSizes dimensionality size-of-lengths (bit flags 0)) (λ dimension-maximum-size.
-    -- no permutation index
+    -- permutation index: none, since its flag has refused
     done {A = DataSpace} (record {
       dimensionality = dimensionality;
       flags = flags;
