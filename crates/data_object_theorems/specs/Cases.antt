@@ -9,7 +9,7 @@ use Rattle.helpers.specs.Addresses.{address, definedAddress}
 use Rattle.ohdr_entry.specs.Continuations.{continuation}
 use Rattle.ohdr_storage.specs.Storage.{dataFrom, rawData, contiguous, dataLayout}
 use Rattle.ohdr_datatype.specs.DataTypes.{dataType, typeLayer, dataTypeHeader, knownType, knownClass, properties, plain}
-use Rattle.ohdr_dataspace.specs.DataSpaces.{dataSpace, dataSpace1, dataSpace2, dimensions, dimensionsFrom, dimension, maximumSizes}
+use Rattle.ohdr_dataspace.specs.DataSpaces.{dataSpace, dataSpace2, dimensions, dimensionsFrom, dimension, maximumSizes}
 use Rattle.grammar.specs.Grammar.{ochk, blockEnd, headerEnd}
 use Rattle.grammar.specs.Walk.{lent, hold, entryBy, runBy, blockBy, entryAt, runAt, walk}
 use Rattle.ohdr_entry.specs.Entries.{entry, prefix, creationOrder, closed, messageHeld, continuationHeld, body, plainBody, layoutBody}
@@ -100,5 +100,5 @@ each f (c ∷ cs) = f c ∷ each f cs
 
 -- the definition gives each marked case its outcome
 pub marked-cases : each given marked ≡ each (λ c. c .outcome) marked
-unfolding le read bind times cond groupInfo address definedAddress continuation dataFrom rawData contiguous dataLayout dataType typeLayer dataTypeHeader knownType knownClass properties plain dataSpace dataSpace1 dataSpace2 dimensions dimensionsFrom dimension maximumSizes ochk blockEnd headerEnd plus minus rotate mixLine mix finalLine finalMix addBlock blocks sumOf sumMatches hold entryBy runBy blockBy entryAt runAt walk entry prefix creationOrder closed messageHeld continuationHeld body plainBody layoutBody ohdr headerFields header decode
+unfolding le read bind times cond groupInfo address definedAddress continuation dataFrom rawData contiguous dataLayout dataType typeLayer dataTypeHeader knownType knownClass properties plain dataSpace dataSpace2 dimensions dimensionsFrom dimension maximumSizes ochk blockEnd headerEnd plus minus rotate mixLine mix finalLine finalMix addBlock blocks sumOf sumMatches hold entryBy runBy blockBy entryAt runAt walk entry prefix creationOrder closed messageHeld continuationHeld body plainBody layoutBody ohdr headerFields header decode
 marked-cases = refl

@@ -9,7 +9,7 @@ use lib.ListN.{replicate, set, getD}
 use borrow.Author.Tests.{leb-true}
 use Rattle.format.specs.Bits.{bit}
 use Rattle.format.specs.Bytes.{le, allOnes}
-use Rattle.format.specs.Format.{done, refuse, bind, pick, Stands}
+use Rattle.format.specs.Format.{done, refuse, pick, Stands}
 use Rattle.records.specs.declared.OptionU8.{OptionU8}
 use Rattle.records.specs.declared.OptionU8.the-variants as options8
 use Rattle.records.specs.declared.Dimensions.{Dimensions}
@@ -17,7 +17,7 @@ use Rattle.records.specs.declared.DataSpace.{DataSpace}
 use Rattle.parser.specs.declared.State.{State}
 use Rattle.ohdr_dataspace.specs.DataSpaces.{dimension, dimensionsFrom, dimensions, maximumSizes, dataSpace1, dataSpace2, dataSpace}
 use Rattle.format.specs.Standing.{stands-bind, stands-check}
-use Rattle.ohdr_dataspace.specs.Facts.{dataSpaceSizes}
+use Rattle.ohdr_dataspace.specs.Answers.{dataSpaceSizes}
 
 pub record Bounded (d : DataSpace) : Type 0 where
   pub counted : d .«dimension_size» .count ≡ d .dimensionality

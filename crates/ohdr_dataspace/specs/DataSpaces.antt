@@ -33,7 +33,7 @@ dimensions n w maximum = bind (dimensionsFrom n w maximum 0 (replicate 4 0)) (λ
 unfoldable pub maximumSizes : ℕ → ℕ → Bool → Format Dimensions
 maximumSizes n w present = pick present (dimensions n w true) (done noDimensions)
 
--- Layout: Dataspace Message - Version 1, after its Version. Bit 0 of the flags: maximum sizes; bit 1: permutation indices, which refuses.
+-- Layout: Dataspace Message - Version 1, after its Version. Bit 0 of the flags: maximum sizes; bit 1: permutation indices; it refuses.
 unfoldable pub dataSpace1 : ℕ → Format DataSpace
 dataSpace1 size-of-lengths =
     number 1 (λ dimensionality.

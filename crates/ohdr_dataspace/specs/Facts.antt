@@ -9,32 +9,16 @@ use lib.Dec.{ltb}
 use lib.ListN.{length, set, take, getD}
 use lib.Seq.{take-suc}
 use borrow.Author.Tests.{ltb-true, ltb-false, lt-ltb, le-ltb}
-use Rattle.format.specs.Bits.{bit}
 use Rattle.format.specs.Format.{Format, done, skip, bind, read}
 use Rattle.format.specs.Steps.{read-passed}
-use Rattle.records.specs.declared.OptionU8.{OptionU8}
-use Rattle.records.specs.declared.DataSpace.{DataSpace}
 use Rattle.ohdr_dataspace.specs.declared.ElementCount.{ElementCount}
 use Rattle.ohdr_dataspace.specs.declared.ElementCount.the-variants as counts
-use Rattle.ohdr_dataspace.specs.DataSpaces.{dimension, dimensionsFrom, dimensions, maximumSizes, product}
+use Rattle.ohdr_dataspace.specs.DataSpaces.{dimension, dimensionsFrom, product}
 use Rattle.ohdr_dataspace.specs.Answers.{countOf}
 
 -- the reserved byte and the reserved four of version 1, at once
 pub reserved-bytes : {A : Type 0} (s : List ℕ) (F : Format A) (p : ℕ) → read s (skip 1 (skip 4 F)) p ≡ read s (skip 5 F) p
 reserved-bytes s F p = read-passed s 1 4 (skip 4 F) F (λ q. refl) p
-
--- the lines that both tables end with: the sizes, the maximum sizes, and the record with what stands before them
-unfoldable pub dataSpaceSizes : (w dimensionality flags : ℕ) (kind : OptionU8) → Format DataSpace
-dataSpaceSizes w dimensionality flags kind =
-    bind (dimensions dimensionality w false) (λ sizes.
-    bind (maximumSizes dimensionality w (bit flags 0)) (λ maximum.
-    done {A = DataSpace} (record {
-      dimensionality = dimensionality;
-      flags = flags;
-      kind = kind;
-      «dimension_size» = sizes;
-      «dimension_max_size» = maximum;
-    })))
 
 -- the sizes from place i on: none left, and one more
 pub dimensionsFrom-none : (n i w : ℕ) (maximum : Bool) (sizes : List ℕ) → n ≤ i → dimensionsFrom (n - i) w maximum i sizes ≡ done sizes

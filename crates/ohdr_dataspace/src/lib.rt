@@ -19,8 +19,7 @@ ghost use Rattle.format.specs.Format.{read, refused};
 ghost use Rattle.records.specs.Refusals.{refusalNumber};
 ghost use Rattle.parser.specs.States.{Widths};
 ghost use Rattle.ohdr_dataspace.specs.DataSpaces.{dimension as dimensionFormat, dimensions as dimensionsFormat, maximumSizes, dataSpace1, dataSpace2, dataSpace, elements as elementsOf};
-ghost use Rattle.ohdr_dataspace.specs.Answers.{dimensionOut, dimensionsOut, Defaulted, dataSpaceOut, countOf};
-ghost use Rattle.ohdr_dataspace.specs.Facts.{dataSpaceSizes};
+ghost use Rattle.ohdr_dataspace.specs.Answers.{dimensionOut, dimensionsOut, dataSpaceSizes, fieldsOut, Few, Defaulted, dataSpaceOut, countOf};
 
 // One size, and the position after it.
 pub enum DimensionRead {
@@ -32,6 +31,12 @@ pub enum DimensionRead {
 pub struct DimensionsRead {
     pub answer: Place,
     pub dimensions: Dimensions,
+}
+
+// What stands before the sizes (dimensionality, flags, kind), and where they begin.
+pub enum FieldsRead {
+    Read(u8, u8, OptionU8, usize),
+    Refused(Refusal),
 }
 
 pub struct DataSpaceRead {
@@ -164,50 +169,62 @@ fn data_space_sizes(
     }
 }
 
-// Version 1, after its version byte.
-fn data_space_1(file: &[u8], at: usize, width: usize) -> DataSpaceRead
-    requires { ⌜ width ≤ 8 ⌝ }
-    ensures { λ r. ⌜ dataSpaceOut r ≡ read (now (file .entry)) (dataSpace1 width) at ⌝ }
-    ensures { λ r. ⌜ Defaulted (r .answer) (r .«data_space») ⌝ }
+// Version 1, from behind its version to its sizes.
+fn data_space_1(file: &[u8], at: usize) -> FieldsRead
+    ensures { λ r. ⌜ ((width : ℕ) → fieldsOut (now (file .entry)) width r ≡ read (now (file .entry)) (dataSpace1 width) at) ⌝ }
+    ensures { λ r. ⌜ Few r ⌝ }
 {
     let ReadU8::Value(dimensionality, flags_at) = le_u8(file, at) else {
-        return no_data_space(Refusal::Short);
+        return FieldsRead::Refused(Refusal::Short);
     };
     if 4 < dimensionality {
-        return no_data_space(Refusal::DataSpace);
+        return FieldsRead::Refused(Refusal::DataSpace);
     }
     let ReadU8::Value(flags, reserved_at) = le_u8(file, flags_at) else {
-        return no_data_space(Refusal::Short);
+        return FieldsRead::Refused(Refusal::Short);
     };
     if flags & 2 != 0 {
-        return no_data_space(Refusal::DataSpace);
+        return FieldsRead::Refused(Refusal::DataSpace);
     }
     let Taken::At(sizes_at) = take(file, reserved_at, 5) else {
-        return no_data_space(Refusal::Short);
+        return FieldsRead::Refused(Refusal::Short);
     };
-    data_space_sizes(file, sizes_at, dimensionality, flags, OptionU8::None, width)
+    FieldsRead::Read(dimensionality, flags, OptionU8::None, sizes_at)
 }
 
-// Version 2, after its version byte.
-fn data_space_2(file: &[u8], at: usize, width: usize) -> DataSpaceRead
-    requires { ⌜ width ≤ 8 ⌝ }
-    ensures { λ r. ⌜ dataSpaceOut r ≡ read (now (file .entry)) (dataSpace2 width) at ⌝ }
-    ensures { λ r. ⌜ Defaulted (r .answer) (r .«data_space») ⌝ }
+// Version 2, from behind its version to its sizes.
+fn data_space_2(file: &[u8], at: usize) -> FieldsRead
+    ensures { λ r. ⌜ ((width : ℕ) → fieldsOut (now (file .entry)) width r ≡ read (now (file .entry)) (dataSpace2 width) at) ⌝ }
+    ensures { λ r. ⌜ Few r ⌝ }
 {
     let ReadU8::Value(dimensionality, flags_at) = le_u8(file, at) else {
-        return no_data_space(Refusal::Short);
+        return FieldsRead::Refused(Refusal::Short);
     };
     if 4 < dimensionality {
-        return no_data_space(Refusal::DataSpace);
+        return FieldsRead::Refused(Refusal::DataSpace);
     }
     let ReadU8::Value(flags, kind_at) = le_u8(file, flags_at) else {
-        return no_data_space(Refusal::Short);
+        return FieldsRead::Refused(Refusal::Short);
     };
-    let ReadU8::Value(value, sizes_at) = le_u8(file, kind_at) else {
-        return no_data_space(Refusal::Short);
+    let ReadU8::Value(kind, sizes_at) = le_u8(file, kind_at) else {
+        return FieldsRead::Refused(Refusal::Short);
     };
-    let kind = OptionU8::Some(value);
-    data_space_sizes(file, sizes_at, dimensionality, flags, kind, width)
+    FieldsRead::Read(dimensionality, flags, OptionU8::Some(kind), sizes_at)
+}
+
+// The version, and its table up to the sizes.
+fn data_space_fields(file: &[u8], at: usize) -> FieldsRead
+    ensures { λ r. ⌜ ((state : State) → fieldsOut (now (file .entry)) (state .«size_of_lengths») r ≡ read (now (file .entry)) (dataSpace state) at) ⌝ }
+    ensures { λ r. ⌜ Few r ⌝ }
+{
+    let ReadU8::Value(version, next) = le_u8(file, at) else {
+        return FieldsRead::Refused(Refusal::Short);
+    };
+    match version {
+        1 => data_space_1(file, next),
+        2 => data_space_2(file, next),
+        _ => FieldsRead::Refused(Refusal::DataSpace),
+    }
 }
 
 // A refusal comes with the default record.
@@ -216,13 +233,12 @@ pub fn message_data_space(file: &[u8], at: usize, state: State) -> DataSpaceRead
     ensures { λ r. ⌜ dataSpaceOut r ≡ read (now (file .entry)) (dataSpace state) at ⌝ }
     ensures { λ r. ⌜ Defaulted (r .answer) (r .«data_space») ⌝ }
 {
-    let ReadU8::Value(version, next) = le_u8(file, at) else {
-        return no_data_space(Refusal::Short);
-    };
-    match version {
-        1 => data_space_1(file, next, state.size_of_lengths),
-        2 => data_space_2(file, next, state.size_of_lengths),
-        _ => no_data_space(Refusal::DataSpace),
+    match data_space_fields(file, at) {
+        FieldsRead::Read(dimensionality, flags, kind, sizes_at) => {
+            let width = state.size_of_lengths;
+            data_space_sizes(file, sizes_at, dimensionality, flags, kind, width)
+        }
+        FieldsRead::Refused(r) => no_data_space(r),
     }
 }
 

@@ -65,5 +65,5 @@ unfolding read bind le many raw byVersion marked datatypeHeader properties datat
 samples-standard = refl
 
 pub samples-here : each (λ (x : Sample). read (x .file) (attribute state) 0) samples ≡ each (λ (x : Sample). x .read-here) samples
-unfolding read bind le textLength knownClass knownType dataTypeHeader plain typeLayer dataType types.properties spaces.dataSpace spaces.dataSpace1 spaces.dataSpace2 spaces.dimensions spaces.dimensionsFrom spaces.dimension spaces.maximumSizes spaces.product textValue value spaceValue typeSpaceValue nameAndValue encoding attributeFields attribute
+unfolding read bind le textLength knownClass knownType dataTypeHeader plain typeLayer dataType types.properties spaces.dataSpace spaces.dataSpace2 spaces.dimensions spaces.dimensionsFrom spaces.dimension spaces.maximumSizes spaces.product textValue value spaceValue typeSpaceValue nameAndValue encoding attributeFields attribute
 samples-here = refl

@@ -130,4 +130,5 @@ dataspace-tied s =
     let w = s .«size_of_lengths» in
     tied-version 1 (dataSpace1 w) _ (marked version-1 (dataspace1 w)) _ (tied-marked version-1 (dataspace1-tied w)) (
     tied-version 2 (dataSpace2 w) _ (marked version-2 (dataspace2 w)) _ (tied-marked version-2 (dataspace2-tied w)) (
+    -- no other version
     record { ties = λ _ _ _ _ h. absurd (h .1) }))

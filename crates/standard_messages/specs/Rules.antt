@@ -6,7 +6,7 @@ use native.Mathlib.Omega.{arith}
 use Rattle.format.specs.Bytes.{le}
 use Rattle.format.specs.Format.{read, bind}
 use Rattle.parser.specs.declared.State.{State}
-use Rattle.ohdr_dataspace.specs.DataSpaces.{dimension, dimensionsFrom, dimensions, maximumSizes, dataSpace1, dataSpace2, dataSpace}
+use Rattle.ohdr_dataspace.specs.DataSpaces.{dimension, dimensionsFrom, dimensions, maximumSizes, dataSpace2, dataSpace}
 use Rattle.ohdr_storage.specs.Storage.{fillValue, fill12, fill3, fill, filter1, filter2}
 use Rattle.standard.specs.Fields.{absent, optional, raw, many}
 use Rattle.standard.specs.Untested.{Untested}
@@ -19,7 +19,7 @@ state = record { «size_of_lengths» = 2; «size_of_offsets» = 2; «end_of_file
 
 -- 26: a dataspace of type 3
 pub dataspace-untested : Untested (λ _ x. ValidDataspace2 x) (dataSpace state) (dataspace2 2)
-unfolding read bind le many storedSizes dataspace2 dimension dimensionsFrom dimensions maximumSizes dataSpace1 dataSpace2 dataSpace
+unfolding read bind le many storedSizes dataspace2 dimension dimensionsFrom dimensions maximumSizes dataSpace2 dataSpace
 dataspace-untested =
     record {
       file = 2 ∷ 0 ∷ 0 ∷ 3 ∷ [];

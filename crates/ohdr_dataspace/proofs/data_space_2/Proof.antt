@@ -1,8 +1,8 @@
--- Each field is one step of version 2's table, and the test is the table's own; a refusal has the default.
+-- Each field is one step of version 2's table, and the test is the table's own.
 use borrow.Author.Tests.{le-leb, lt-leb}
 use Rattle.format.specs.Steps.{read-number, read-refuse}
 use Rattle.ohdr_dataspace.specs.DataSpaces.{dataSpace2}
-use Rattle.ohdr_dataspace.specs.Facts.{dataSpaceSizes}
+use Rattle.ohdr_dataspace.specs.Answers.{dataSpaceSizes}
 use borrow.Author.Needs.{needs}
 use Rattle.ohdr_dataspace.proofs.data_space_2.Statement.{statement}
 use Rattle.ohdr_dataspace.proofs.data_space_2.Tie as tie
@@ -16,19 +16,13 @@ enum-known-dimensionality c = search needs
 enum-told : tie.Need-enum-told
 enum-told c = search needs
 
-no-data-space-requires : tie.Need-no-data-space-requires
-no-data-space-requires c κs = search needs
-
 returns : tie.Need-returns
 unfolding dataSpace2
-returns c = (rw (read-number, ← c .before .before .before .le-u8 .ensures, c .before .enum-told .given .1) (c .no-data-space .ensures .0), c .no-data-space .ensures .1)
-
-no-data-space-requires-2 : tie.Need-no-data-space-requires-2
-no-data-space-requires-2 c κs = search needs
+returns c = (λ width. rw (read-number, ← c .before .before .le-u8 .ensures, c .enum-told .given .1), tt)
 
 returns-2 : tie.Need-returns-2
 unfolding dataSpace2
-returns-2 c = (rw (read-number, ← c .before .before .before .before .before .le-u8 .ensures, c .before .before .before .dimensionality .given .1, lt-leb _ _ (c .before .if1 .taken), read-refuse) (c .no-data-space2 .ensures .0), c .no-data-space2 .ensures .1)
+returns-2 c = (λ width. rw (read-number, ← c .before .before .before .before .le-u8 .ensures, c .before .before .dimensionality .given .1, lt-leb _ _ (c .if1 .taken), read-refuse), tt)
 
 le-u8-requires-2 : tie.Need-le-u8-requires-2
 le-u8-requires-2 c κs = search needs
@@ -39,35 +33,26 @@ enum-known-flags c = search needs
 enum-told-2 : tie.Need-enum-told-2
 enum-told-2 c = search needs
 
-no-data-space-requires-3 : tie.Need-no-data-space-requires-3
-no-data-space-requires-3 c κs = search needs
-
 returns-3 : tie.Need-returns-3
 unfolding dataSpace2
-returns-3 c = (rw (read-number, ← c .before .before .before .before .before .before .before .before .le-u8 .ensures, c .before .before .before .before .before .before .dimensionality .given .1, le-leb _ _ (c .before .before .before .before .if1 .left), read-number, ← c .before .before .before .le-u82 .ensures, c .before .enum-told2 .given .1) (c .no-data-space3 .ensures .0), c .no-data-space3 .ensures .1)
+returns-3 c = (λ width. rw (read-number, ← c .before .before .before .before .before .before .before .le-u8 .ensures, c .before .before .before .before .before .dimensionality .given .1, le-leb _ _ (c .before .before .before .if1 .left), read-number, ← c .before .before .le-u82 .ensures, c .enum-told2 .given .1), tt)
 
 le-u8-requires-3 : tie.Need-le-u8-requires-3
 le-u8-requires-3 c κs = search needs
 
-enum-known-value : tie.Need-enum-known-value
-enum-known-value c = search needs
+enum-known-kind : tie.Need-enum-known-kind
+enum-known-kind c = search needs
 
 enum-told-3 : tie.Need-enum-told-3
 enum-told-3 c = search needs
 
-no-data-space-requires-4 : tie.Need-no-data-space-requires-4
-no-data-space-requires-4 c κs = search needs
-
 returns-4 : tie.Need-returns-4
 unfolding dataSpace2
-returns-4 c = (rw (read-number, ← c .before .before .before .before .before .before .before .before .before .before .before .before .le-u8 .ensures, c .before .before .before .before .before .before .before .before .before .before .dimensionality .given .1, le-leb _ _ (c .before .before .before .before .before .before .before .before .if1 .left), read-number, ← c .before .before .before .before .before .before .before .le-u82 .ensures, c .before .before .before .before .before .flags .given .1, read-number, ← c .before .before .before .le-u83 .ensures, c .before .enum-told3 .given .1) (c .no-data-space4 .ensures .0), c .no-data-space4 .ensures .1)
-
-data-space-sizes-requires : tie.Need-data-space-sizes-requires
-data-space-sizes-requires c κs = search needs
+returns-4 c = (λ width. rw (read-number, ← c .before .before .before .before .before .before .before .before .before .before .before .le-u8 .ensures, c .before .before .before .before .before .before .before .before .before .dimensionality .given .1, le-leb _ _ (c .before .before .before .before .before .before .before .if1 .left), read-number, ← c .before .before .before .before .before .before .le-u82 .ensures, c .before .before .before .before .flags .given .1, read-number, ← c .before .before .le-u83 .ensures, c .enum-told3 .given .1), tt)
 
 returns-5 : tie.Need-returns-5
 unfolding dataSpace2 dataSpaceSizes
-returns-5 c = (rw (read-number, ← c .before .before .before .before .before .before .before .before .before .before .before .before .before .le-u8 .ensures, c .before .before .before .before .before .before .before .before .before .before .before .dimensionality .given .1, le-leb _ _ (c .before .before .before .before .before .before .before .before .before .if1 .left), read-number, ← c .before .before .before .before .before .before .before .before .le-u82 .ensures, c .before .before .before .before .before .before .flags .given .1, read-number, ← c .before .before .before .before .le-u83 .ensures, c .before .before .value .given .1) (c .data-space-sizes .ensures .0), c .data-space-sizes .ensures .1)
+returns-5 c = (λ width. rw (read-number, ← c .before .before .before .before .before .before .before .before .before .before .before .before .le-u8 .ensures, c .before .before .before .before .before .before .before .before .before .before .dimensionality .given .1, le-leb _ _ (c .before .before .before .before .before .before .before .before .if1 .left), read-number, ← c .before .before .before .before .before .before .before .le-u82 .ensures, c .before .before .before .before .before .flags .given .1, read-number, ← c .before .before .before .le-u83 .ensures, c .before .kind .given .1), c .before .before .before .before .before .before .before .before .if1 .left)
 
 pub data-space-2-spec : {M : Type 1} → statement M
 data-space-2-spec =
@@ -76,19 +61,14 @@ data-space-2-spec =
     le-u8-requires
     enum-known-dimensionality
     enum-told
-    no-data-space-requires
     returns
-    no-data-space-requires-2
     returns-2
     le-u8-requires-2
     enum-known-flags
     enum-told-2
-    no-data-space-requires-3
     returns-3
     le-u8-requires-3
-    enum-known-value
+    enum-known-kind
     enum-told-3
-    no-data-space-requires-4
     returns-4
-    data-space-sizes-requires
     returns-5)

@@ -1,7 +1,7 @@
 -- The sizes and the maximum sizes are each one step of the format; a refusal comes with the default.
 use Rattle.format.specs.Bits.{bit-test}
 use Rattle.format.specs.Steps.{read-bind, read-done}
-use Rattle.ohdr_dataspace.specs.Facts.{dataSpaceSizes}
+use Rattle.ohdr_dataspace.specs.Answers.{dataSpaceSizes}
 use borrow.Author.Needs.{needs}
 use Rattle.ohdr_dataspace.proofs.data_space_sizes.Statement.{statement}
 use Rattle.ohdr_dataspace.proofs.data_space_sizes.Tie as tie
