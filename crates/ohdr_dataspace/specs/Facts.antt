@@ -1,4 +1,4 @@
--- What the proofs of the readers and of the bounds cite. Assumes nothing.
+-- What the proofs of the readers cite. Assumes nothing.
 use Prim.Native.Nat.{ℕ, suc, _+_, _-_, _*_, _/_, _^_, _≤_, _<_}
 use mathlib.Core.Path.{_≡_, refl, ap, sym, _∙_}
 use mathlib.Core.Bool.{Bool, true, false}
