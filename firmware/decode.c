@@ -13,6 +13,16 @@
  * refused prints `refused,` and the refusal's number. The exit status is 0 for either, and 2 where
  * nothing could be decoded or written.
  *
+ * The line of a row ends with its part; where an attribute has a number, three fields follow:
+ *
+ *   unsigned,48000,0x000000000000bb80
+ *   signed,-5,0xfffffffffffffffb
+ *   single,1.5,0x3fc00000
+ *   double,0.10000000000000001,0x3fb999999999999a
+ *
+ * They are what the number is, the number with as many digits as tell it from every other, and its
+ * bits. Infinities and NaNs have printf's names, and of NaNs only the bits tell which.
+ *
  * A header is checked first, and then as many rows are set aside as it takes. With --check it stays
  * at that, and in place of the header's lines one is printed: `checked`, the position after the
  * header, its entries and its rows.
@@ -171,6 +181,28 @@ static void put_part(const struct bytes *file, uint64_t position, uint64_t lengt
     }
 }
 
+/* An attribute's number, where the row has one. */
+static void put_value(const uint64_t *row)
+{
+    uint64_t bits = row[DOWRINGAF_ROW_NUMBER_BITS];
+    unsigned long long stored = bits;
+
+    switch (row[DOWRINGAF_ROW_NUMBER]) {
+    case DOWRINGAF_NUMBER_UNSIGNED:
+        printf(",unsigned,%llu,0x%016llx", stored, stored);
+        break;
+    case DOWRINGAF_NUMBER_SIGNED:
+        printf(",signed,%lld,0x%016llx", (long long)dowringaf_signed(bits), stored);
+        break;
+    case DOWRINGAF_NUMBER_SINGLE:
+        printf(",single,%.9g,0x%08llx", (double)dowringaf_single(bits), stored);
+        break;
+    case DOWRINGAF_NUMBER_DOUBLE:
+        printf(",double,%.17g,0x%016llx", dowringaf_double(bits), stored);
+        break;
+    }
+}
+
 static void put_row(const struct bytes *file, const uint64_t *row)
 {
     printf("%llu", (unsigned long long)row[DOWRINGAF_ROW_TYPE]);
@@ -187,6 +219,7 @@ static void put_row(const struct bytes *file, const uint64_t *row)
     } else {
         fputs(",-,", stdout);
     }
+    put_value(row);
     putchar('\n');
 }
 

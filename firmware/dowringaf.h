@@ -36,6 +36,7 @@
 
 #include <stddef.h>
 #include <stdint.h>
+#include <string.h>
 
 #ifdef __cplusplus
 extern "C" {
@@ -46,7 +47,7 @@ extern "C" {
  * and those that dowringaf_list does.
  */
 #define DOWRINGAF_DECODING_STACK 24576
-#define DOWRINGAF_LISTING_STACK 65536
+#define DOWRINGAF_LISTING_STACK 77824
 
 /* Why a superblock, a header or a lookup is refused; 0 where it is not. */
 enum dowringaf_refusal {
@@ -92,11 +93,65 @@ enum dowringaf_row {
     DOWRINGAF_ROW_NAME = 4,          /* 1 with an attribute's name, 0 without */
     DOWRINGAF_ROW_NAME_POSITION = 5,
     DOWRINGAF_ROW_NAME_LENGTH = 6,
-    DOWRINGAF_ROW_PART = 7,          /* 1 with an attribute's value or a layout's data, 0 without */
+    DOWRINGAF_ROW_PART = 7,          /* 1 with an attribute's text or a layout's data, 0 without */
     DOWRINGAF_ROW_PART_POSITION = 8,
     DOWRINGAF_ROW_PART_LENGTH = 9,
-    DOWRINGAF_ROW_WORDS = 10
+    DOWRINGAF_ROW_NUMBER = 10,       /* an attribute's number: an enum dowringaf_number */
+    DOWRINGAF_ROW_NUMBER_BITS = 11,  /* its bits */
+    DOWRINGAF_ROW_WORDS = 12
 };
+
+/*
+ * Which number a row has. An attribute has one where it has exactly one element, which lies in the
+ * file, of a type that is
+ *
+ *   - fixed point of 1, 2, 4 or 8 bytes, with bit offset 0 and all its bits as precision: a whole
+ *     number, with sign where class bit 3 is set; or
+ *   - an IEEE single of 4 bytes or double of 8, where class bit 6 is 0, bits 4 and 5 read 2, and
+ *     bits 8 to 15 name the top bit, which is 31 or 63.
+ *
+ * Class bit 0 says whether the highest byte stands first; all other class bits may be any. A space
+ * of any kind has one element where it has no sizes or all of them are 1. A row with a number has
+ * no part. Every other row has DOWRINGAF_NUMBER_NONE, and bits of 0.
+ */
+enum dowringaf_number {
+    DOWRINGAF_NUMBER_NONE = 0,
+    DOWRINGAF_NUMBER_UNSIGNED = 1, /* a whole number without sign: the bits are the number */
+    DOWRINGAF_NUMBER_SIGNED = 2,   /* one with sign, negative or not: two's complement in 64 bits */
+    DOWRINGAF_NUMBER_SINGLE = 3,   /* the stored bits, in the lower half; the upper half is 0 */
+    DOWRINGAF_NUMBER_DOUBLE = 4    /* the stored bits */
+};
+
+/*
+ * What the bits of a row stand for, in C's own types; without sign they are the number. Bits are
+ * copied and no value is converted, so that a signalling NaN stays one as far as C allows: what is
+ * done with a float may alter its bits, and those in the row are as they were stored. The three are
+ * no functions of the library, and not proved.
+ */
+static inline int64_t dowringaf_signed(uint64_t bits)
+{
+    int64_t number;
+
+    memcpy(&number, &bits, sizeof number);
+    return number;
+}
+
+static inline float dowringaf_single(uint64_t bits)
+{
+    uint32_t half = (uint32_t)bits;
+    float number;
+
+    memcpy(&number, &half, sizeof number);
+    return number;
+}
+
+static inline double dowringaf_double(uint64_t bits)
+{
+    double number;
+
+    memcpy(&number, &bits, sizeof number);
+    return number;
+}
 
 /* A field that may be absent: present is 1, or it is 0 and so is the value. */
 typedef struct dowringaf_optional {
@@ -253,11 +308,11 @@ typedef struct dowringaf_superblock {
 } dowringaf_superblock;
 
 /*
- * Decodes the object header at a position of a file into a table of table_words words: a row of ten
- * words for each message, in the header's order, then zeros. A header that is refused leaves the
- * whole table zero. Writes every word of the object. What stood in the table and the object before
- * makes no difference. Widths are in bytes. The position and end_of_file are numbers, whatever they
- * are; only an address that is read from the file may be undefined.
+ * Decodes the object header at a position of a file into a table of table_words words: a row of
+ * DOWRINGAF_ROW_WORDS words for each message, in the header's order, then zeros. A header that is
+ * refused leaves the whole table zero. Writes every word of the object. What stood in the table and
+ * the object before makes no difference. Widths are in bytes. The position and end_of_file are
+ * numbers, whatever they are; only an address that is read from the file may be undefined.
  *
  * The header and every block that it leads to must close with the standard's checksum of their
  * bytes (Jenkins' lookup3 with an initial value of 0), or the header is refused with
@@ -341,8 +396,8 @@ dowringaf_checked dowringaf_check_root_object(const uint8_t *file, size_t file_b
  * What is listed is the root group's object header: it is checked as by dowringaf_check_root_object
  * and, where it passes, decoded as by dowringaf_root_object with 512 rows lent. So DOWRINGAF_TABLE
  * is listed only of a header with more than 512 rows in which nothing else is wrong. The listing
- * has a line for each row and a last line, or `refused,` and a number. The bytes of out after it
- * are left as they were.
+ * has a line for each row, without its number, and a last line, or `refused,` and the refusal's
+ * number. The bytes of out after it are left as they were.
  */
 size_t dowringaf_list(const uint8_t *file, size_t file_bytes, uint8_t out[DOWRINGAF_LISTING]);
 

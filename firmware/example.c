@@ -4,10 +4,12 @@
  *
  *   example < FILE
  *
- * Prints the number of rows, and for each the type of its message and, of an attribute, the name. A
- * file that is refused prints `refused,` and the refusal's number. The exit status is 0 for either,
- * and 2 where the file is too large for this program or there is no memory.
+ * Prints the number of rows, and for each the type of its message and, of an attribute, the name,
+ * and its number where it has one. A file that is refused prints `refused,` and the refusal's
+ * number. The exit status is 0 for either, and 2 where the file is too large for this program or
+ * there is no memory.
  */
+#include <inttypes.h>
 #include <stdio.h>
 #include <stdlib.h>
 
@@ -24,11 +26,31 @@ static void put_line(const char *name, uint64_t number)
     printf("%s,%llu\n", name, (unsigned long long)number);
 }
 
+/* A number in the C type of its kind: uint64_t, int64_t, float (which printf widens) or double. */
+static void put_number(uint64_t number, uint64_t bits)
+{
+    switch (number) {
+    case DOWRINGAF_NUMBER_UNSIGNED:
+        printf(",%" PRIu64, bits);
+        break;
+    case DOWRINGAF_NUMBER_SIGNED:
+        printf(",%" PRId64, dowringaf_signed(bits));
+        break;
+    case DOWRINGAF_NUMBER_SINGLE:
+        printf(",%.9g", (double)dowringaf_single(bits));
+        break;
+    case DOWRINGAF_NUMBER_DOUBLE:
+        printf(",%.17g", dowringaf_double(bits));
+        break;
+    }
+}
+
 /* A row without a name has 0 for its position and its length. */
 static void put_row(const uint64_t *row)
 {
     printf("%llu,", (unsigned long long)row[DOWRINGAF_ROW_TYPE]);
     fwrite(file + row[DOWRINGAF_ROW_NAME_POSITION], 1, row[DOWRINGAF_ROW_NAME_LENGTH], stdout);
+    put_number(row[DOWRINGAF_ROW_NUMBER], row[DOWRINGAF_ROW_NUMBER_BITS]);
     putchar('\n');
 }
 

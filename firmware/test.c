@@ -197,6 +197,9 @@ static void put_superblock(struct writer *w, int offset_width, int length_width,
 /* The full header lies some bytes behind the superblock. */
 enum { OFFSET = 8, LENGTH = 4, SUPERBLOCK = 48, HEADER_FROM = SUPERBLOCK + 3, MESSAGES = 7 };
 
+/* Words for its rows, with some more that make no row; and one word too few. */
+enum { LENT = MESSAGES * DOWRINGAF_ROW_WORDS + 5, TOO_FEW = MESSAGES * DOWRINGAF_ROW_WORDS - 1 };
+
 /* Where the pieces of the full header lie. */
 struct places {
     size_t body[MESSAGES];
@@ -439,6 +442,8 @@ static void compare_rows(const uint64_t *table, size_t words, const struct place
         IS(row[DOWRINGAF_ROW_PART], has_part ? 1 : 0);
         IS(row[DOWRINGAF_ROW_PART_POSITION], is_attribute ? p->value : has_part ? p->data : 0);
         IS(row[DOWRINGAF_ROW_PART_LENGTH], is_attribute ? 5 : has_part ? 9 : 0);
+        IS(row[DOWRINGAF_ROW_NUMBER], DOWRINGAF_NUMBER_NONE);
+        IS(row[DOWRINGAF_ROW_NUMBER_BITS], 0);
     }
     for (i = MESSAGES * DOWRINGAF_ROW_WORDS; i < words; i++) {
         IS(table[i], 0);
@@ -577,8 +582,9 @@ static void filling_is(const struct header *h, size_t words, dowringaf_checked e
  */
 static void pair_is(const struct header *h, dowringaf_checked expected, uint64_t taken)
 {
-    static const size_t beyond[5] = {0, 9, 10, 19, 20};
-    size_t full = (size_t)taken * DOWRINGAF_ROW_WORDS;
+    enum { ROW = DOWRINGAF_ROW_WORDS };
+    static const size_t beyond[5] = {0, ROW - 1, ROW, 2 * ROW - 1, 2 * ROW};
+    size_t full = (size_t)taken * ROW;
     size_t i;
 
     check_is(h, expected);
@@ -586,8 +592,8 @@ static void pair_is(const struct header *h, dowringaf_checked expected, uint64_t
     for (i = 0; i < 5; i++) {
         size_t words = full + beyond[i];
 
-        if (words >= DOWRINGAF_ROW_WORDS) {
-            words -= DOWRINGAF_ROW_WORDS;
+        if (words >= ROW) {
+            words -= ROW;
             filling_is(h, words, words < full ? refused_with(DOWRINGAF_TABLE) : expected);
         }
     }
@@ -688,18 +694,18 @@ static void test_refused(void)
 
     write_full(&w, &p);
     for (n = 0; n < w.count; n++) {
-        refuse(w.bytes, n, HEADER_FROM, OFFSET, 75, DOWRINGAF_SHORT);
+        refuse(w.bytes, n, HEADER_FROM, OFFSET, LENT, DOWRINGAF_SHORT);
     }
-    refuse(w.bytes, w.count, HEADER_FROM, 1, 75, DOWRINGAF_WIDTH);
-    refuse(w.bytes, w.count, HEADER_FROM, UINT64_MAX, 75, DOWRINGAF_WIDTH);
-    refuse(w.bytes, w.count, 0, OFFSET, 75, DOWRINGAF_SIGNATURE);
-    refuse(w.bytes, w.count, UINT64_MAX, OFFSET, 75, DOWRINGAF_SHORT);
-    refuse(w.bytes, w.count, HEADER_FROM, OFFSET, 69, DOWRINGAF_TABLE);
+    refuse(w.bytes, w.count, HEADER_FROM, 1, LENT, DOWRINGAF_WIDTH);
+    refuse(w.bytes, w.count, HEADER_FROM, UINT64_MAX, LENT, DOWRINGAF_WIDTH);
+    refuse(w.bytes, w.count, 0, OFFSET, LENT, DOWRINGAF_SIGNATURE);
+    refuse(w.bytes, w.count, UINT64_MAX, OFFSET, LENT, DOWRINGAF_SHORT);
+    refuse(w.bytes, w.count, HEADER_FROM, OFFSET, TOO_FEW, DOWRINGAF_TABLE);
     refuse(w.bytes, w.count, HEADER_FROM, OFFSET, 0, DOWRINGAF_TABLE);
     refuse(NULL, 0, 0, OFFSET, 0, DOWRINGAF_SHORT);
     w.bytes[p.body[1]] = 0x38;
     make_true(w.bytes, HEADER_FROM, p.next - 4);
-    refuse(w.bytes, w.count, HEADER_FROM, OFFSET, 75, DOWRINGAF_DATATYPE);
+    refuse(w.bytes, w.count, HEADER_FROM, OFFSET, LENT, DOWRINGAF_DATATYPE);
 }
 
 /*
@@ -721,9 +727,9 @@ static void refuse_entry(int type, int flags, const char *body, size_t n, uint64
         put(&w, i < n ? (uint8_t)body[i] : 0, 1);
     }
     put_sum(&w, 0);
-    refuse(w.bytes, w.count, 0, OFFSET, 75, number);
+    refuse(w.bytes, w.count, 0, OFFSET, LENT, number);
     w.bytes[w.count - 1] ^= 1;
-    refuse(w.bytes, w.count, 0, OFFSET, 75, number);
+    refuse(w.bytes, w.count, 0, OFFSET, LENT, number);
 }
 
 /* The numbers of what a message is refused for. */
@@ -757,9 +763,9 @@ static void test_headers(void)
     uint8_t *file = block(n, 1);
     size_t i;
 
-    refuse(version, sizeof version, 0, OFFSET, 75, DOWRINGAF_VERSION);
-    refuse(flags, sizeof flags, 0, OFFSET, 75, DOWRINGAF_HEADER_FLAGS);
-    refuse(chunk, sizeof chunk, 0, OFFSET, 75, DOWRINGAF_CHUNK_SIZE);
+    refuse(version, sizeof version, 0, OFFSET, LENT, DOWRINGAF_VERSION);
+    refuse(flags, sizeof flags, 0, OFFSET, LENT, DOWRINGAF_HEADER_FLAGS);
+    refuse(chunk, sizeof chunk, 0, OFFSET, LENT, DOWRINGAF_CHUNK_SIZE);
     memset(file, 0, n);
     memcpy(file, "OHDR\2\1", 6);
     file[6] = (uint8_t)(ENTRIES * 4 % 256);
@@ -771,7 +777,7 @@ static void test_headers(void)
         memcpy(file + HEAD + 4 + i * 8, "\31\0\0\0\1\0\0\0", 8);
     }
     make_true(file, 0, n - 4);
-    refuse(file, n, 0, OFFSET, 75, DOWRINGAF_TYPE_LEVEL);
+    refuse(file, n, 0, OFFSET, LENT, DOWRINGAF_TYPE_LEVEL);
     free(file);
 }
 
@@ -846,7 +852,7 @@ static void test_block(void)
 {
     struct writer w;
     uint8_t *file;
-    uint64_t *table = ones(20);
+    uint64_t *table = ones(2 * DOWRINGAF_ROW_WORDS);
     dowringaf_object *o = object_of_ones();
     struct header h;
     size_t i;
@@ -865,7 +871,7 @@ static void test_block(void)
     h.offset_width = 2;
     h.length_width = 2;
     pair_is(&h, passed_with(19, 3, 2), 2);
-    fill(&h, table, 20, o);
+    fill(&h, table, 2 * DOWRINGAF_ROW_WORDS, o);
     IS(o->refused, 0);
     IS(o->next, 19);
     IS(o->entries, 3);
@@ -886,14 +892,14 @@ static void object_is(const uint8_t *bytes, size_t n, uint64_t position, int wid
                       const dowringaf_object *expected)
 {
     uint8_t *file = copy(bytes, n);
-    uint64_t *table = ones(75);
+    uint64_t *table = ones(LENT);
     dowringaf_object *o = object_of_ones();
     struct header h = header_at(file, n, position, end);
     size_t i;
 
     h.offset_width = (uint64_t)width;
     pair_is(&h, checked_of(expected), expected->rows);
-    fill(&h, table, 75, o);
+    fill(&h, table, LENT, o);
     for (i = 0; i < sizeof *o / sizeof(uint64_t); i++) {
         IS(((const uint64_t *)o)[i], ((const uint64_t *)expected)[i]);
     }
@@ -1081,7 +1087,7 @@ static void refuse_data(uint64_t address, uint64_t size, int width, uint64_t end
     begin_header(&w);
     put_contiguous(&w, address, size, width);
     end_header(&w);
-    refuse_below(w.bytes, w.count, 0, (uint64_t)width, end, 75, number);
+    refuse_below(w.bytes, w.count, 0, (uint64_t)width, end, LENT, number);
 }
 
 /* The bytes of a file that has the byte at 65535, which a width of 2 has no address for. */
@@ -1126,14 +1132,14 @@ static void test_continuations(void)
         put(&w, offset, width);
         put(&w, 8, LENGTH);
         end_header(&w);
-        refuse_below(w.bytes, length_at, 0, (uint64_t)width, most(width), 75, DOWRINGAF_SHORT);
-        refuse_below(w.bytes, w.count, 0, (uint64_t)width, offset + 1, 75,
+        refuse_below(w.bytes, length_at, 0, (uint64_t)width, most(width), LENT, DOWRINGAF_SHORT);
+        refuse_below(w.bytes, w.count, 0, (uint64_t)width, offset + 1, LENT,
                      DOWRINGAF_CONTINUATION_RANGE);
         w.bytes[length_at - (size_t)width] = 255;
-        refuse_below(w.bytes, length_at, 0, (uint64_t)width, UINT64_MAX, 75,
+        refuse_below(w.bytes, length_at, 0, (uint64_t)width, UINT64_MAX, LENT,
                      DOWRINGAF_CONTINUATION_RANGE);
         make_true(w.bytes, 0, w.count - 4);
-        refuse_below(w.bytes, w.count, 0, (uint64_t)width, UINT64_MAX, 75,
+        refuse_below(w.bytes, w.count, 0, (uint64_t)width, UINT64_MAX, LENT,
                      DOWRINGAF_CONTINUATION_RANGE);
     }
 }
@@ -1175,7 +1181,7 @@ static void test_far_blocks(void)
         free(file);
     }
     file = far_block(FAR, 2, &o);
-    refuse_below(file, FAR_BYTES, 0, 2, FAR_BYTES, 75, DOWRINGAF_CONTINUATION_RANGE);
+    refuse_below(file, FAR_BYTES, 0, 2, FAR_BYTES, LENT, DOWRINGAF_CONTINUATION_RANGE);
     free(file);
 }
 
@@ -1291,14 +1297,14 @@ static void superblock_is(const struct writer *w, const dowringaf_superblock *ex
 static void refuse_root(const uint8_t *bytes, size_t n, uint64_t number)
 {
     uint8_t *file = copy(bytes, n);
-    uint64_t *table = ones(75);
+    uint64_t *table = ones(LENT);
     dowringaf_object *o = object_of_ones();
     char listing[32];
 
     compare_checked(dowringaf_check_root_object(file, n), refused_with(number));
-    dowringaf_root_object(file, n, table, 75, o);
+    dowringaf_root_object(file, n, table, LENT, o);
     IS(o->refused, number);
-    compare_zeros(o, table, 75);
+    compare_zeros(o, table, LENT);
     sprintf(listing, "refused,%llu\n", (unsigned long long)number);
     listing_is(file, n, listing);
     free(file);
@@ -1515,15 +1521,15 @@ static void test_root(void)
     ends[3] = UINT64_MAX - 1;
     for (i = 0; i < 4; i++) {
         write_front(&w, UINT64_MAX, ends[i]);
-        root_is_by_hand(&w, w.count, ends[i], 75, MESSAGES);
+        root_is_by_hand(&w, w.count, ends[i], LENT, MESSAGES);
     }
     for (i = SUPERBLOCK; i < w.count; i++) {
-        root_is_by_hand(&w, i, ends[3], 75, 0);
+        root_is_by_hand(&w, i, ends[3], LENT, 0);
     }
-    root_is_by_hand(&w, w.count, ends[3], 69, 0);
+    root_is_by_hand(&w, w.count, ends[3], TOO_FEW, 0);
     root_is_by_hand(&w, w.count, ends[3], 0, 0);
     write_undefined(&w, &p);
-    root_is_by_hand(&w, w.count, w.count, 75, MESSAGES);
+    root_is_by_hand(&w, w.count, w.count, LENT, MESSAGES);
     compare_checked(dowringaf_check_root_object(NULL, 0), refused_with(DOWRINGAF_SHORT));
     dowringaf_root_object(NULL, 0, NULL, 0, o);
     IS(o->refused, DOWRINGAF_SHORT);
@@ -1549,10 +1555,10 @@ static uint8_t *far_root(uint64_t root, int width)
 static void far_root_is(uint64_t root, int width, uint64_t refused)
 {
     uint8_t *file = far_root(root, width);
-    uint64_t *table = ones(75);
+    uint64_t *table = ones(LENT);
     dowringaf_object *o = object_of_ones();
 
-    dowringaf_root_object(file, FAR_BYTES, table, 75, o);
+    dowringaf_root_object(file, FAR_BYTES, table, LENT, o);
     IS(o->refused, refused);
     IS(o->next, refused == 0 ? root + 11 : 0);
     compare_checked(dowringaf_check_root_object(file, FAR_BYTES),
@@ -1575,6 +1581,521 @@ static void test_far_roots(void)
     expected.next = FAR + 11;
     object_is(file, FAR_BYTES, FAR, 2, FAR, &expected);
     free(file);
+}
+
+/* The classes of numbers, and the bits of a class that decide on them. */
+enum { FIXED = 0, FLOAT = 1, HIGHEST_FIRST = 1, WITH_SIGN = 8, NORMALISED = 0x20 };
+
+/*
+ * An attribute that is a number, or would be but for one field. In version 1 its type and its space
+ * have version 1 too, in version 3 they have 3 and 2. Of the sizes all but the last are 1. With a
+ * list size the type is a variable-length one of numbers.
+ */
+struct numeric {
+    uint64_t version;
+    uint64_t class;
+    uint64_t class_bits;
+    uint64_t size;
+    uint64_t bit_offset;
+    uint64_t precision;
+    uint64_t list_size;
+    int sizes;
+    uint64_t last;
+    uint64_t maximum;
+    uint64_t stored;
+};
+
+/* A whole number of some bytes, without sizes. */
+static struct numeric whole(uint64_t size, uint64_t class_bits, uint64_t stored)
+{
+    struct numeric n = {3, FIXED, 0, 0, 0, 0, 0, 0, 1, 0, 0};
+
+    n.class_bits = class_bits;
+    n.size = size;
+    n.precision = 8 * size;
+    n.stored = stored;
+    return n;
+}
+
+/* A single or a double. */
+static struct numeric real(uint64_t size, uint64_t class_bits, uint64_t stored)
+{
+    struct numeric n = whole(size, class_bits, stored);
+
+    n.class = FLOAT;
+    n.class_bits |= NORMALISED | (8 * size - 1) << 8;
+    return n;
+}
+
+/* The size of what was written from a place on; version 1 pads that to a multiple of 8. */
+static void end_field(struct writer *w, const struct numeric *n, size_t size_at, size_t from)
+{
+    w->bytes[size_at] = (uint8_t)(w->count - from);
+    while (n->version == 1 && (w->count - from) % 8 != 0) {
+        put(w, 0xEE, 1);
+    }
+}
+
+/* The further properties of a float are those of IEEE, by its precision. */
+static void put_type(struct writer *w, const struct numeric *n)
+{
+    int is_single = n->precision == 32;
+
+    if (n->list_size != 0) {
+        put(w, n->version << 4 | 9, 1);
+        put(w, 0, 3);
+        put(w, n->list_size, 4);
+    }
+    put(w, n->version << 4 | n->class, 1);
+    put(w, n->class_bits, 3);
+    put(w, n->size, 4);
+    put(w, n->bit_offset, 2);
+    put(w, n->precision, 2);
+    if (n->class == FLOAT) {
+        put(w, is_single ? 23 : 52, 1);
+        put(w, is_single ? 8 : 11, 1);
+        put(w, 0, 1);
+        put(w, is_single ? 23 : 52, 1);
+        put(w, is_single ? 127 : 1023, 4);
+    }
+}
+
+static void put_sizes(struct writer *w, int count, uint64_t last)
+{
+    for (; count != 0; count--) {
+        put(w, count == 1 ? last : 1, LENGTH);
+    }
+}
+
+static void put_space(struct writer *w, const struct numeric *n)
+{
+    put(w, n->version == 1 ? 1 : 2, 1);
+    put(w, (uint64_t)n->sizes, 1);
+    put(w, n->maximum != 0 ? 1 : 0, 1);
+    if (n->version == 1) {
+        put(w, 0, 5);
+    } else {
+        put(w, n->sizes != 0 ? 1 : 0, 1);
+    }
+    put_sizes(w, n->sizes, n->last);
+    put_sizes(w, n->maximum != 0 ? n->sizes : 0, n->maximum);
+}
+
+/* The bytes of a number, the lowest first or, by its type, the highest. */
+static void put_element(struct writer *w, const struct numeric *n)
+{
+    uint64_t i;
+
+    for (i = 0; i < n->size; i++) {
+        uint64_t byte = n->class_bits & HIGHEST_FIRST ? n->size - 1 - i : i;
+
+        put(w, byte < 8 ? n->stored >> 8 * byte : 0, 1);
+    }
+}
+
+/* An attribute up to its value. The sizes of name, type and space are below 256. */
+static size_t put_before_value(struct writer *w, const char *name, const struct numeric *n)
+{
+    size_t body = entry(w, 12, 0, 0);
+    size_t from;
+
+    put(w, n->version, 1);
+    put(w, 0, n->version == 1 ? 7 : 8);
+    from = w->count;
+    put_text(w, name);
+    put(w, 0, 1);
+    end_field(w, n, body + 2, from);
+    from = w->count;
+    put_type(w, n);
+    end_field(w, n, body + 4, from);
+    from = w->count;
+    put_space(w, n);
+    end_field(w, n, body + 6, from);
+    return body;
+}
+
+/* The entry's size, below 256, by what is written of its body. */
+static void end_entry(struct writer *w, size_t body)
+{
+    w->bytes[body - 3] = (uint8_t)(w->count - body);
+}
+
+static size_t put_numeric(struct writer *w, const char *name, const struct numeric *n)
+{
+    size_t body = put_before_value(w, name, n);
+    uint64_t i;
+
+    for (i = 0; i < n->last; i++) {
+        put_element(w, n);
+    }
+    end_entry(w, body);
+    return body;
+}
+
+/* The row of an attribute that was written last, up to its number. */
+static void expect_numeric(uint64_t *row, const struct writer *w, size_t body, const char *name,
+                           const struct numeric *n)
+{
+    memset(row, 0, DOWRINGAF_ROW_WORDS * sizeof *row);
+    row[DOWRINGAF_ROW_TYPE] = 12;
+    row[DOWRINGAF_ROW_SIZE] = w->count - body;
+    row[DOWRINGAF_ROW_BODY] = body;
+    row[DOWRINGAF_ROW_NAME] = 1;
+    row[DOWRINGAF_ROW_NAME_POSITION] = body + (n->version == 1 ? 8 : 9);
+    row[DOWRINGAF_ROW_NAME_LENGTH] = strlen(name);
+}
+
+/* The rows of a header in some bytes of a file, word for word. */
+static void rows_are(const struct writer *w, size_t bytes, size_t position, size_t next,
+                     const uint64_t *expected, size_t rows)
+{
+    uint8_t *file = copy(w->bytes, bytes);
+    uint64_t *table = ones(rows * DOWRINGAF_ROW_WORDS);
+    dowringaf_object *o = object_of_ones();
+    struct header h = header_at(file, bytes, position, bytes);
+    size_t i;
+
+    pair_is(&h, passed_with(next, rows, rows), rows);
+    fill(&h, table, rows * DOWRINGAF_ROW_WORDS, o);
+    for (i = 0; i < rows * DOWRINGAF_ROW_WORDS; i++) {
+        IS(table[i], expected[i]);
+    }
+    free(file);
+    free(table);
+    free(o);
+}
+
+/* Such an attribute and, behind it, a message without a body. */
+static void number_is(const struct numeric *n, uint64_t number, uint64_t bits)
+{
+    uint64_t expected[2 * DOWRINGAF_ROW_WORDS] = {0};
+    struct writer w;
+    size_t body;
+
+    begin_header(&w);
+    body = put_numeric(&w, "Rate", n);
+    expect_numeric(expected, &w, body, "Rate", n);
+    expected[DOWRINGAF_ROW_NUMBER] = number;
+    expected[DOWRINGAF_ROW_NUMBER_BITS] = bits;
+    expected[DOWRINGAF_ROW_WORDS + DOWRINGAF_ROW_BODY] = entry(&w, 0, 0, 0);
+    end_header(&w);
+    rows_are(&w, w.count, 0, w.count, expected, 2);
+}
+
+/* In both byte orders, and in both versions. */
+static void number_is_read(struct numeric n, uint64_t number, uint64_t bits)
+{
+    int i;
+
+    for (i = 0; i < 4; i++) {
+        n.version = i < 2 ? 3 : 1;
+        n.class_bits ^= HIGHEST_FIRST;
+        number_is(&n, number, bits);
+    }
+}
+
+/* Whole numbers without sign, and the numbers that they are with it. */
+static void test_whole_numbers(void)
+{
+    static const struct {
+        uint64_t size;
+        uint64_t stored;
+        int64_t with_sign;
+    } numbers[] = {
+        {1, 0, 0},
+        {1, 0x7F, 127},
+        {1, 0x80, -128},
+        {1, 0xFF, -1},
+        {2, 0x0102, 258},
+        {2, 0x7FFF, 32767},
+        {2, 0x8000, -32768},
+        {2, 0xFFFB, -5},
+        {2, 0x00FF, 255},
+        {4, 0xBB80, 48000},
+        {4, 0x01020304, 16909060},
+        {4, 0x7FFFFFFF, 2147483647},
+        {4, 0x80000000u, -2147483647 - 1},
+        {4, 0xFFFEFDFCu, -66052},
+        {8, 0x0102030405060708u, 72623859790382856},
+        {8, 0x7FFFFFFFFFFFFFFFu, INT64_MAX},
+        {8, 0x8000000000000000u, INT64_MIN},
+        {8, 0xFFFFFFFFFFFFFFFFu, -1},
+        {8, 0x00000000FFFFFFFFu, 4294967295},
+    };
+    size_t i;
+
+    for (i = 0; i < sizeof numbers / sizeof numbers[0]; i++) {
+        uint64_t bits = (uint64_t)numbers[i].with_sign;
+
+        number_is_read(whole(numbers[i].size, 0, numbers[i].stored), DOWRINGAF_NUMBER_UNSIGNED,
+                       numbers[i].stored);
+        number_is_read(whole(numbers[i].size, WITH_SIGN, numbers[i].stored),
+                       DOWRINGAF_NUMBER_SIGNED, bits);
+        IS((uint64_t)(dowringaf_signed(bits) == numbers[i].with_sign), 1);
+    }
+}
+
+/* The bits of what dowringaf_single and dowringaf_double make of bits. */
+static uint64_t bits_of_single(uint64_t bits)
+{
+    float number = dowringaf_single(bits);
+    uint32_t half;
+
+    memcpy(&half, &number, sizeof half);
+    return half;
+}
+
+static uint64_t bits_of_double(uint64_t bits)
+{
+    double number = dowringaf_double(bits);
+    uint64_t all;
+
+    memcpy(&all, &number, sizeof all);
+    return all;
+}
+
+/* Zeros, the least and the greatest, infinities, and NaNs, quiet and signalling. */
+static void test_reals(void)
+{
+    static const uint64_t singles[] = {0,          0x80000000u, 0x3FC00000,  0x00000001,
+                                       0x7F7FFFFF, 0x7F800000,  0xFF800000u, 0x7FC00000,
+                                       0x7FA00001, 0x7F800001,  0xFFBFFFFFu, 0x01020304};
+    static const uint64_t doubles[] = {0,
+                                       0x8000000000000000u,
+                                       0x3FB999999999999Au,
+                                       0x0000000000000001u,
+                                       0x7FEFFFFFFFFFFFFFu,
+                                       0x7FF0000000000000u,
+                                       0xFFF0000000000000u,
+                                       0x7FF8000000000000u,
+                                       0x7FF4000000000001u,
+                                       0x7FF0000000000001u,
+                                       0xFFF7FFFFFFFFFFFFu,
+                                       0x0102030405060708u};
+    enum { COUNT = sizeof singles / sizeof singles[0] };
+    size_t i;
+
+    for (i = 0; i < COUNT; i++) {
+        number_is_read(real(4, 0, singles[i]), DOWRINGAF_NUMBER_SINGLE, singles[i]);
+        number_is_read(real(8, 0, doubles[i]), DOWRINGAF_NUMBER_DOUBLE, doubles[i]);
+        IS(bits_of_single(singles[i]), singles[i]);
+        IS(bits_of_double(doubles[i]), doubles[i]);
+    }
+    IS((uint64_t)(dowringaf_single(0x3FC00000) == 1.5f), 1);
+    IS((uint64_t)(dowringaf_single(0xFF7FFFFFu) == -3.40282347e38f), 1);
+    IS((uint64_t)(dowringaf_double(0x3FB999999999999Au) == 0.1), 1);
+    IS((uint64_t)(dowringaf_double(0xC08F400000000000u) == -1000.0), 1);
+}
+
+/* The class bits that are ignored, all of them set; and changes of those that are not. */
+static void test_class_bits(void)
+{
+    enum { OF_FIXED = 0xFFFFF6, OF_FLOAT = 0xFF008E, CHANGES = 12 };
+    static const uint64_t changes[CHANGES] = {0x10,  0x20,  0x30,   0x40,   0x100,  0x200,
+                                              0x400, 0x800, 0x1000, 0x2000, 0x4000, 0x8000};
+    size_t i;
+
+    number_is_read(whole(4, OF_FIXED, 48000), DOWRINGAF_NUMBER_UNSIGNED, 48000);
+    number_is_read(whole(4, OF_FIXED | WITH_SIGN, 48000), DOWRINGAF_NUMBER_SIGNED, 48000);
+    number_is_read(real(4, OF_FLOAT, 0x3FC00000), DOWRINGAF_NUMBER_SINGLE, 0x3FC00000);
+    number_is_read(real(8, OF_FLOAT, 0x3FC00000), DOWRINGAF_NUMBER_DOUBLE, 0x3FC00000);
+    for (i = 0; i < CHANGES; i++) {
+        struct numeric n = real(4, 0, 0x3FC00000);
+
+        n.class_bits ^= changes[i];
+        number_is_read(n, DOWRINGAF_NUMBER_NONE, 0);
+        n = real(8, 0, 0x3FC00000);
+        n.class_bits ^= changes[i];
+        number_is_read(n, DOWRINGAF_NUMBER_NONE, 0);
+    }
+}
+
+/* Every other form has none: by its size, offset and precision, as a list, and by its elements. */
+static void test_other_forms(void)
+{
+    static const struct numeric forms[] = {
+        {3, FIXED, 0, 0, 0, 0, 0, 0, 1, 0, 5},
+        {3, FIXED, 0, 3, 0, 24, 0, 0, 1, 0, 5},
+        {3, FIXED, 0, 5, 0, 40, 0, 0, 1, 0, 5},
+        {3, FIXED, 0, 7, 0, 56, 0, 0, 1, 0, 5},
+        {3, FIXED, 0, 16, 0, 128, 0, 0, 1, 0, 5},
+        {3, FIXED, 0, 4, 0, 31, 0, 0, 1, 0, 5},
+        {3, FIXED, 0, 4, 0, 16, 0, 0, 1, 0, 5},
+        {3, FIXED, 0, 4, 0, 64, 0, 0, 1, 0, 5},
+        {3, FIXED, 0, 4, 0, 32 + 256, 0, 0, 1, 0, 5},
+        {3, FIXED, 0, 4, 1, 31, 0, 0, 1, 0, 5},
+        {3, FIXED, 0, 4, 1, 32, 0, 0, 1, 0, 5},
+        {3, FIXED, 0, 4, 256, 32, 0, 0, 1, 0, 5},
+        {3, FLOAT, 0x1F20, 8, 0, 32, 0, 0, 1, 0, 5},
+        {3, FLOAT, 0x3F20, 8, 0, 32, 0, 0, 1, 0, 5},
+        {3, FLOAT, 0x1F20, 2, 0, 32, 0, 0, 1, 0, 5},
+        {3, FLOAT, 0x3F20, 4, 0, 64, 0, 0, 1, 0, 5},
+        {3, FLOAT, 0x1F20, 4, 0, 64, 0, 0, 1, 0, 5},
+        {3, FLOAT, 0x3F20, 16, 0, 64, 0, 0, 1, 0, 5},
+        {3, FIXED, 0, 4, 0, 32, 4, 0, 1, 0, 5},
+        {3, FLOAT, 0x3F20, 8, 0, 64, 8, 0, 1, 0, 5},
+        {3, FIXED, 0, 4, 0, 32, 0, 1, 0, 0, 5},
+        {3, FIXED, 0, 4, 0, 32, 0, 1, 2, 0, 5},
+        {3, FIXED, 0, 4, 0, 32, 0, 4, 2, 0, 5},
+        {3, FLOAT, 0x3F20, 8, 0, 64, 0, 2, 3, 0, 5},
+        {3, FLOAT, 0x1F20, 4, 0, 32, 0, 1, 0, 1, 5},
+    };
+    size_t i;
+
+    for (i = 0; i < sizeof forms / sizeof forms[0]; i++) {
+        number_is_read(forms[i], DOWRINGAF_NUMBER_NONE, 0);
+    }
+}
+
+/* One element: up to four sizes of 1, whatever the maximum. */
+static void test_one_element(void)
+{
+    static const uint64_t maxima[4] = {0, 1, 7, 0xFFFFFFFFu};
+    int i;
+
+    for (i = 0; i < 20; i++) {
+        struct numeric n = whole(2, WITH_SIGN, 0xFFFB);
+
+        n.sizes = i / 4;
+        n.maximum = maxima[i % 4];
+        number_is_read(n, DOWRINGAF_NUMBER_SIGNED, 0xFFFFFFFFFFFFFFFBu);
+        n = real(4, 0, 0x7FA00000);
+        n.sizes = i / 4;
+        n.maximum = maxima[i % 4];
+        number_is_read(n, DOWRINGAF_NUMBER_SINGLE, 0x7FA00000);
+    }
+}
+
+/*
+ * A double behind the end of its entry, where the header's sum stands. It is none while it leaves
+ * the file; otherwise it is read, and the header ends four bytes behind it.
+ */
+static void test_cut_number(void)
+{
+    enum { SUM = 4, BYTES = 8 };
+    uint64_t expected[DOWRINGAF_ROW_WORDS];
+    struct numeric n = real(BYTES, 0, 0);
+    struct writer w;
+    size_t body;
+    size_t end;
+    size_t i;
+
+    begin_header(&w);
+    body = put_before_value(&w, "Rate", &n);
+    end_entry(&w, body);
+    expect_numeric(expected, &w, body, "Rate", &n);
+    end = w.count;
+    end_header(&w);
+    put(&w, 0x7FF40000, BYTES - SUM);
+    put(&w, 0, SUM);
+    for (i = end + SUM; i < w.count; i++) {
+        if (i < end + BYTES) {
+            rows_are(&w, i, 0, end + SUM, expected, 1);
+        } else {
+            refuse(w.bytes, i, 0, OFFSET, DOWRINGAF_ROW_WORDS, DOWRINGAF_SHORT);
+        }
+    }
+    expected[DOWRINGAF_ROW_NUMBER] = DOWRINGAF_NUMBER_DOUBLE;
+    expected[DOWRINGAF_ROW_NUMBER_BITS] = 0x7FF4000000000000u | lookup3(w.bytes, end);
+    rows_are(&w, w.count, 0, w.count, expected, 1);
+}
+
+/* The attributes of a file, and the numbers that they are. */
+static const struct {
+    const char *name;
+    uint64_t number;
+    uint64_t bits;
+    struct numeric attribute;
+} named[] = {
+    {"SamplingRate", DOWRINGAF_NUMBER_UNSIGNED, 48000,
+     {3, FIXED, 0, 4, 0, 32, 0, 0, 1, 0, 48000}},
+    {"Channels", DOWRINGAF_NUMBER_UNSIGNED, 2,
+     {1, FIXED, 0, 1, 0, 8, 0, 1, 1, 7, 2}},
+    {"Serial", DOWRINGAF_NUMBER_UNSIGNED, UINT64_MAX,
+     {3, FIXED, 1, 8, 0, 64, 0, 0, 1, 0, UINT64_MAX}},
+    {"Pair", DOWRINGAF_NUMBER_NONE, 0,
+     {3, FIXED, 0, 2, 0, 16, 0, 1, 2, 0, 5}},
+    {"Offset", DOWRINGAF_NUMBER_SIGNED, 0xFFFFFFFFFFFFFFFBu,
+     {3, FIXED, 9, 2, 0, 16, 0, 0, 1, 0, 0xFFFB}},
+    {"Least", DOWRINGAF_NUMBER_SIGNED, 0x8000000000000000u,
+     {3, FIXED, 8, 8, 0, 64, 0, 0, 1, 0, 0x8000000000000000u}},
+    {"Order", DOWRINGAF_NUMBER_SIGNED, 7,
+     {3, FIXED, 8, 4, 0, 32, 0, 0, 1, 0, 7}},
+    {"Gain", DOWRINGAF_NUMBER_SINGLE, 0x3FC00000,
+     {3, FLOAT, 0x1F20, 4, 0, 32, 0, 0, 1, 0, 0x3FC00000}},
+    {"Third", DOWRINGAF_NUMBER_SINGLE, 0x3EAAAAAB,
+     {3, FLOAT, 0x1F21, 4, 0, 32, 0, 0, 1, 0, 0x3EAAAAAB}},
+    {"Signalling", DOWRINGAF_NUMBER_SINGLE, 0x7FA00000,
+     {3, FLOAT, 0x1F20, 4, 0, 32, 0, 0, 1, 0, 0x7FA00000}},
+    {"Delay", DOWRINGAF_NUMBER_DOUBLE, 0x3FB999999999999Au,
+     {1, FLOAT, 0x3F21, 8, 0, 64, 0, 0, 1, 0, 0x3FB999999999999Au}},
+    {"Infinity", DOWRINGAF_NUMBER_DOUBLE, 0xFFF0000000000000u,
+     {3, FLOAT, 0x3F20, 8, 0, 64, 0, 0, 1, 0, 0xFFF0000000000000u}},
+};
+
+enum { NAMED = sizeof named / sizeof named[0] };
+
+/* The file, and the rows of its root's header. */
+static void write_numbers(struct writer *w, uint64_t expected[NAMED * DOWRINGAF_ROW_WORDS])
+{
+    size_t i;
+
+    w->count = SUPERBLOCK;
+    put_text(w, "xyz");
+    put_text(w, "OHDR");
+    put(w, 2, 1);
+    put(w, 1, 1);
+    put(w, 0, 2);
+    for (i = 0; i < NAMED; i++) {
+        const struct numeric *n = &named[i].attribute;
+        uint64_t *row = expected + i * DOWRINGAF_ROW_WORDS;
+        size_t body = put_numeric(w, named[i].name, n);
+
+        expect_numeric(row, w, body, named[i].name, n);
+        row[DOWRINGAF_ROW_NUMBER] = named[i].number;
+        row[DOWRINGAF_ROW_NUMBER_BITS] = named[i].bits;
+    }
+    w->bytes[HEADER_FROM + 6] = (uint8_t)((w->count - HEADER_FROM - 8) % 256);
+    w->bytes[HEADER_FROM + 7] = (uint8_t)((w->count - HEADER_FROM - 8) / 256);
+    put_sum(w, HEADER_FROM);
+    write_front(w, UINT64_MAX, w->count);
+}
+
+/* Each is found by its name, and no number is listed. */
+static void test_named_numbers(void)
+{
+    enum { WORDS = NAMED * DOWRINGAF_ROW_WORDS };
+    uint64_t expected[WORDS];
+    char listing[NAMED * 64];
+    struct writer w;
+    size_t at = 0;
+    size_t i;
+
+    write_numbers(&w, expected);
+    rows_are(&w, w.count, HEADER_FROM, w.count, expected, NAMED);
+    root_is_by_hand(&w, w.count, w.count, WORDS, NAMED);
+    for (i = 0; i < NAMED; i++) {
+        const uint64_t *row = expected + i * DOWRINGAF_ROW_WORDS;
+
+        look_up(w.bytes, w.count, expected, WORDS, NAMED, named[i].name, 0, 1, i);
+        at += (size_t)sprintf(listing + at, "%u,12,0,%u,%u,%u,%u,-,-\n", (unsigned)i,
+                              (unsigned)row[DOWRINGAF_ROW_SIZE], (unsigned)row[DOWRINGAF_ROW_BODY],
+                              (unsigned)row[DOWRINGAF_ROW_NAME_POSITION],
+                              (unsigned)row[DOWRINGAF_ROW_NAME_LENGTH]);
+    }
+    sprintf(listing + at, "end,%u,%u\n", (unsigned)w.count, (unsigned)NAMED);
+    listing_is(w.bytes, w.count, listing);
+}
+
+static void test_numbers(void)
+{
+    test_whole_numbers();
+    test_reals();
+    test_class_bits();
+    test_other_forms();
+    test_one_element();
+    test_cut_number();
+    test_named_numbers();
 }
 
 /* Something that closes with a sum: where that begins and stands, and a byte that may be any. */
@@ -1639,12 +2160,12 @@ static void write_nested(struct writer *w, struct closing c[CLOSINGS])
 static void nested_is_read(const struct writer *w, const struct closing c[CLOSINGS])
 {
     uint8_t *file = copy(w->bytes, w->count);
-    uint64_t *table = ones(75);
+    uint64_t *table = ones(LENT);
     dowringaf_object *o = object_of_ones();
     struct header h = header_at(file, w->count, HEADER_FROM, w->count);
 
     pair_is(&h, passed_with(c[1].end + 4, 5, 3), 3);
-    fill(&h, table, 75, o);
+    fill(&h, table, LENT, o);
     IS(o->refused, 0);
     IS(o->next, c[1].end + 4);
     IS(o->entries, 5);
@@ -1665,7 +2186,7 @@ static void refuse_sum(const struct writer *w, const struct closing c[CLOSINGS],
         nested_is_read(w, c);
     } else {
         IS(dowringaf_super_block(file, w->count).refused, 0);
-        refuse(file, w->count, HEADER_FROM, OFFSET, 75, DOWRINGAF_CHECKSUM);
+        refuse(file, w->count, HEADER_FROM, OFFSET, LENT, DOWRINGAF_CHECKSUM);
         refuse_root(file, w->count, DOWRINGAF_CHECKSUM);
     }
     free(file);
@@ -1681,7 +2202,7 @@ static void test_sums(void)
 
     write_nested(&w, c);
     nested_is_read(&w, c);
-    root_is_by_hand(&w, w.count, w.count, 75, 3);
+    root_is_by_hand(&w, w.count, w.count, LENT, 3);
     for (i = 0; i < CLOSINGS; i++) {
         for (bit = 0; bit < 8; bit++) {
             w.bytes[c[i].any] ^= (uint8_t)(1 << bit);
@@ -1702,6 +2223,7 @@ static void test_sums(void)
  */
 static void test_sum_order(void)
 {
+    enum { TWO_ROWS = 2 * DOWRINGAF_ROW_WORDS };
     struct writer w;
     struct closing c[CLOSINGS];
     size_t n;
@@ -1709,17 +2231,17 @@ static void test_sum_order(void)
 
     write_small(&w);
     w.bytes[w.count - 4] ^= 1;
-    refuse(w.bytes, w.count, SUPERBLOCK, OFFSET, 20, DOWRINGAF_CHECKSUM);
-    refuse(w.bytes, w.count, SUPERBLOCK, OFFSET, 19, DOWRINGAF_TABLE);
+    refuse(w.bytes, w.count, SUPERBLOCK, OFFSET, TWO_ROWS, DOWRINGAF_CHECKSUM);
+    refuse(w.bytes, w.count, SUPERBLOCK, OFFSET, TWO_ROWS - 1, DOWRINGAF_TABLE);
     for (n = w.count - 3; n < w.count; n++) {
-        refuse(w.bytes, n, SUPERBLOCK, OFFSET, 20, DOWRINGAF_SHORT);
+        refuse(w.bytes, n, SUPERBLOCK, OFFSET, TWO_ROWS, DOWRINGAF_SHORT);
     }
     for (i = 1; i < INNER; i++) {
         write_nested(&w, c);
         w.bytes[c[i].any - 1] = 2;
-        refuse(w.bytes, w.count, HEADER_FROM, OFFSET, 75, DOWRINGAF_ENTRY_FLAGS);
+        refuse(w.bytes, w.count, HEADER_FROM, OFFSET, LENT, DOWRINGAF_ENTRY_FLAGS);
         w.bytes[c[i + 1].end] ^= 1;
-        refuse(w.bytes, w.count, HEADER_FROM, OFFSET, 75, DOWRINGAF_CHECKSUM);
+        refuse(w.bytes, w.count, HEADER_FROM, OFFSET, LENT, DOWRINGAF_CHECKSUM);
     }
 }
 
@@ -1903,12 +2425,12 @@ static void test_changed(void)
     check_is(&h, passed_with(71, 2, 2));
     w.bytes[SUPERBLOCK + 11] ^= 1;
     check_is(&h, refused_with(DOWRINGAF_CHECKSUM));
-    filling_is(&h, 20, refused_with(DOWRINGAF_CHECKSUM));
+    filling_is(&h, 2 * DOWRINGAF_ROW_WORDS, refused_with(DOWRINGAF_CHECKSUM));
     memset(w.bytes + SUPERBLOCK + 7, 0, 12);
     make_true(w.bytes, SUPERBLOCK, w.count - 4);
-    filling_is(&h, 20, refused_with(DOWRINGAF_TABLE));
+    filling_is(&h, 2 * DOWRINGAF_ROW_WORDS, refused_with(DOWRINGAF_TABLE));
     check_is(&h, passed_with(71, 3, 3));
-    filling_is(&h, 30, passed_with(71, 3, 3));
+    filling_is(&h, 3 * DOWRINGAF_ROW_WORDS, passed_with(71, 3, 3));
 }
 
 static int write_file(const char *path, const struct writer *w)
@@ -1926,24 +2448,29 @@ static int write_file(const char *path, const struct writer *w)
     return written;
 }
 
-/* Writes the full header, and the one with undefined addresses, for another program to read. */
-static int write_files(const char *full, const char *undefined)
+/* Writes the full header, the one with undefined addresses and the numbers, for other programs. */
+static int write_files(char **paths)
 {
+    uint64_t rows[NAMED * DOWRINGAF_ROW_WORDS];
     struct writer w;
     struct places p;
 
     write_full(&w, &p);
-    if (!write_file(full, &w)) {
+    if (!write_file(paths[0], &w)) {
         return 0;
     }
     write_undefined(&w, &p);
-    return write_file(undefined, &w);
+    if (!write_file(paths[1], &w)) {
+        return 0;
+    }
+    write_numbers(&w, rows);
+    return write_file(paths[2], &w);
 }
 
-/* With two paths, also writes the two files there. */
+/* With three paths, also writes the three files there. */
 int main(int count, char **words)
 {
-    if (count == 3 && !write_files(words[1], words[2])) {
+    if (count == 4 && !write_files(words + 1)) {
         return 2;
     }
     test_full();
@@ -1966,6 +2493,7 @@ int main(int count, char **words)
     test_superblock_order();
     test_root();
     test_far_roots();
+    test_numbers();
     test_sums();
     test_sum_order();
     test_taken();

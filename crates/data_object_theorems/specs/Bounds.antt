@@ -8,7 +8,7 @@ use Rattle.format.specs.Format.{done, Stands}
 use Rattle.format.specs.Standing.{stands-bind}
 use Rattle.records.specs.declared.DataSpace.{DataSpace}
 use Rattle.records.specs.declared.DataType.{DataType}
-use Rattle.records.specs.declared.OptionPart.{OptionPart}
+use Rattle.records.specs.declared.Value.{Value}
 use Rattle.records.specs.declared.Attribute.{Attribute}
 use Rattle.parser.specs.declared.State.{State}
 use Rattle.grammar.specs.Message.{Kept}
@@ -68,7 +68,7 @@ module _ (file : List ℕ) (s : State) where
       rw (← e) (bounded file s p (w .0) (w .1) (w .2))
 
   -- the dataspace of an attribute whose type, space and value stand
-  spaced : (version p q : ℕ) (v : OptionPart) → Stands file (typeSpaceValue version s) p q v → Spaced version p
+  spaced : (version p q : ℕ) (v : Value) → Stands file (typeSpaceValue version s) p q v → Spaced version p
   unfolding typeSpaceValue spaceValue
   spaced version p q v h =
       let w = stands-bind file (dataType typeLevels) _ p q v h in

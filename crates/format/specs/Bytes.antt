@@ -1,5 +1,5 @@
 -- Numbers, names and texts in a file, which is a list of bytes. Assumes nothing: these are definitions.
-use Prim.Native.Nat.{ℕ, zero, suc, _+_, _-_, _*_, _^_, _%_, _≤_, _<_}
+use Prim.Native.Nat.{ℕ, zero, suc, _+_, _-_, _*_, _/_, _^_, _%_, _≤_, _<_}
 use mathlib.Core.Path.{_≡_}
 use mathlib.Core.Logic.{_⊎_}
 use mathlib.Core.Bool.{true, false}
@@ -11,6 +11,16 @@ use lib.Dec.{eqb}
 unfoldable pub le : List ℕ → ℕ → ℕ → ℕ
 le s p zero = zero
 le s p (suc w) = getD s p 0 + 256 * le s (p + 1) w
+
+-- the number in the w bytes from p, the highest byte first
+unfoldable pub be : List ℕ → ℕ → ℕ → ℕ
+be s p zero = zero
+be s p (suc w) = getD s p 0 * 2 ^ (8 * w) + be s (p + 1) w
+
+-- the lowest w bytes of a number, in the other order
+unfoldable pub swap : ℕ → ℕ → ℕ
+swap zero v = zero
+swap (suc w) v = v % 256 * 2 ^ (8 * w) + swap w (v / 256)
 
 -- all ones in w bytes
 abbrev pub allOnes : ℕ → ℕ

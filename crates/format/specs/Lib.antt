@@ -2,6 +2,7 @@ pub mod Bytes
 pub mod Format
 pub mod Bools
 pub mod BytesLaws
+pub mod OrderLaws
 pub mod Laws
 pub mod Covers
 pub mod Steps

@@ -9,6 +9,9 @@ use Rattle.records.specs.declared.AttributeInfo.{AttributeInfo}
 use Rattle.records.specs.declared.DataType.{DataType}
 use Rattle.records.specs.declared.DataLayout.{DataLayout}
 use Rattle.records.specs.declared.Attribute.{Attribute}
+use Rattle.records.specs.declared.Value.{Value}
+use Rattle.records.specs.declared.Value.the-variants as values
+use Rattle.records.specs.Numbers.{valueText, valueCase, valueBits}
 use Rattle.row.specs.declared.Row.{Row}
 
 -- what is kept of a message's body; of a fill value, a filter pipeline and a body that is skipped nothing is
@@ -46,7 +49,18 @@ nameOf (groupInfo g) = parts.None
 nameOf (attribute a) = parts.Some (a .name)
 nameOf (attributeInfo a) = parts.None
 
--- a layout's data and an attribute's value are parts of the file
+-- an attribute may have a value
+abbrev pub valueOf : Kept → Value
+valueOf nothing = values.None
+valueOf (dataSpace d) = values.None
+valueOf (linkInfo l) = values.None
+valueOf (dataType t) = values.None
+valueOf (dataLayout l) = values.None
+valueOf (groupInfo g) = values.None
+valueOf (attribute a) = a .value
+valueOf (attributeInfo a) = values.None
+
+-- a layout's data and an attribute's text are parts of the file
 abbrev pub partOf : Kept → OptionPart
 partOf nothing = parts.None
 partOf (dataSpace d) = parts.None
@@ -54,9 +68,18 @@ partOf (linkInfo l) = parts.None
 partOf (dataType t) = parts.None
 partOf (dataLayout l) = parts.Some (l .«data»)
 partOf (groupInfo g) = parts.None
-partOf (attribute a) = a .value
+partOf (attribute a) = valueText (a .value)
 partOf (attributeInfo a) = parts.None
 
 -- a message's row
 abbrev pub rowOf : Message → Row
-rowOf m = record { kind = m .type; flags = m .flags; size = m .size; body = m .body; name = nameOf (m .kept); part = partOf (m .kept) }
+rowOf m = record {
+  kind = m .type;
+  flags = m .flags;
+  size = m .size;
+  body = m .body;
+  name = nameOf (m .kept);
+  part = partOf (m .kept);
+  «number_case» = valueCase (valueOf (m .kept));
+  «number_bits» = valueBits (valueOf (m .kept));
+}

@@ -1,7 +1,7 @@
 -- What the answers of the readers mean. Assumes nothing: these are definitions.
 use Rattle.format.specs.Format.{Out, found, refused}
 use Rattle.records.specs.Refusals.{refusalNumber}
-use Rattle.records.specs.declared.OptionPart.{OptionPart}
+use Rattle.records.specs.declared.Value.{Value}
 use Rattle.records.specs.declared.Attribute.{Attribute}
 use Rattle.ohdr_attribute.specs.declared.AttributeFields.{AttributeFields}
 use Rattle.ohdr_attribute.specs.declared.FieldsRead.{FieldsRead}
@@ -15,7 +15,7 @@ abbrev pub fieldsOut : FieldsRead → Out AttributeFields
 fieldsOut (fields.Read v q) = found v q
 fieldsOut (fields.Refused r) = refused (refusalNumber r)
 
-abbrev pub valueOut : ValueRead → Out OptionPart
+abbrev pub valueOut : ValueRead → Out Value
 valueOut (values.Read v q) = found v q
 valueOut (values.Refused r) = refused (refusalNumber r)
 

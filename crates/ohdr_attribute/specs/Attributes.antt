@@ -4,12 +4,16 @@ use mathlib.Core.Bool.{_&&_, _||_}
 use lib.Dec.{eqb, leb, ltb}
 use Rattle.format.specs.Bytes.{toMultipleOf8}
 use Rattle.format.specs.Format.{Format, done, number, skip, text, here, attempt, bind, check, pick, nothing}
-use Rattle.records.specs.declared.OptionPart.{OptionPart}
-use Rattle.records.specs.declared.OptionPart.the-variants as parts
 use Rattle.records.specs.declared.Part.{Part}
+use Rattle.records.specs.declared.Value.{Value}
+use Rattle.records.specs.declared.Value.the-variants as values
 use Rattle.records.specs.declared.Attribute.{Attribute}
 use Rattle.records.specs.declared.DataType.{DataType}
 use Rattle.parser.specs.declared.State.{State}
+use Rattle.number.specs.declared.OptionForm.{OptionForm}
+use Rattle.number.specs.declared.OptionForm.the-variants as options
+use Rattle.number.specs.Forms.{numberForm}
+use Rattle.number.specs.Values.{numberValue}
 use Rattle.ohdr_attribute.specs.declared.AttributeFields.{AttributeFields}
 use Rattle.ohdr_datatype.specs.DataTypes.{classOf, dataType, typeLevels}
 use Rattle.ohdr_dataspace.specs.DataSpaces.{dataSpace, elements}
@@ -23,35 +27,41 @@ abbrev pub padded : {A B : Type 0} → ℕ → Format A → (A → Format B) →
 padded version F k = here (λ from. bind F (λ a. here (λ upto. skip (padding version (upto - from)) (k a))))
 
 -- class 3 with a size above 0: a text of all the elements, which may be empty
-unfoldable pub textValue : ℕ → Format OptionPart
-textValue n = here (λ from. text n (λ length. done (parts.Some (record { position = from; length = length }))))
+unfoldable pub textValue : ℕ → Format Value
+textValue n = here (λ from. text n (λ length. done (values.Text (record { position = from; length = length }))))
 
 -- class 9: as many bytes as its size, at most 12, and no value
-unfoldable pub listValue : ℕ → Format OptionPart
-listValue size = check (leb size 12) 17 (skip size (done parts.None))
+unfoldable pub listValue : ℕ → Format Value
+listValue size = check (leb size 12) 17 (skip size (done values.None))
 
 -- other classes: their bytes are passed if they are 1 to 1,048,576, and there is no value
-unfoldable pub otherValue : ℕ → Format OptionPart
-otherValue n = pick (leb 1 n && leb n 1048576) (skip n (done parts.None)) (done parts.None)
+unfoldable pub otherValue : ℕ → Format Value
+otherValue n = pick (leb 1 n && leb n 1048576) (skip n (done values.None)) (done values.None)
+
+-- one element is a number where its form has one; in every other form its bytes are passed as those of many are
+abbrev pub elementValue : OptionForm → DataType → Format Value
+elementValue options.None t = otherValue (t .size)
+elementValue (options.Some form) t = bind (numberValue form (t .«class_bit_field») (t .size)) (λ n. done (values.Number n))
 
 -- the value, by the type's class and size and the number of elements
-unfoldable pub value : DataType → ℕ → Format OptionPart
+unfoldable pub value : DataType → ℕ → Format Value
 value t n =
     pick (eqb (classOf (t .«class_and_version»)) 3 && ltb 0 (t .size)) (textValue (n * t .size)) (
     pick (eqb (classOf (t .«class_and_version»)) 9) (listValue (t .size)) (
-    otherValue (n * t .size)))
+    pick (eqb n 1) (elementValue (numberForm t) t) (
+    otherValue (n * t .size))))
 
 -- dataspace and data, the first with its padding
-unfoldable pub spaceValue : ℕ → State → DataType → Format OptionPart
+unfoldable pub spaceValue : ℕ → State → DataType → Format Value
 spaceValue version s datatype = padded version (dataSpace s) (λ dataspace. value datatype (elements dataspace))
 
 -- datatype, dataspace and data, the first two each with its padding
-unfoldable pub typeSpaceValue : ℕ → State → Format OptionPart
+unfoldable pub typeSpaceValue : ℕ → State → Format Value
 typeSpaceValue version s = padded version (dataType typeLevels) (spaceValue version s)
 
 -- an attribute of this name, without a value
 abbrev pub valueless : Part → Attribute
-valueless name = record { name = name; value = parts.None }
+valueless name = record { name = name; value = values.None }
 
 -- Type, space and value stand where they have a reading; where they have none, the attribute stands without a value,
 -- and ends where its type would begin.

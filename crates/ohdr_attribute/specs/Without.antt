@@ -4,9 +4,9 @@ use mathlib.Core.Path.{_≡_, refl, ap, sym}
 use mathlib.Core.Logic.{_⊎_, inl, inr, _↔_}
 use mathlib.Core.List.{List}
 use Rattle.format.specs.Format.{Stands}
-use Rattle.records.specs.declared.OptionPart.{OptionPart}
-use Rattle.records.specs.declared.OptionPart.the-variants as parts
 use Rattle.records.specs.declared.Part.{Part}
+use Rattle.records.specs.declared.Value.{Value}
+use Rattle.records.specs.declared.Value.the-variants as values
 use Rattle.records.specs.declared.Attribute.{Attribute}
 use Rattle.parser.specs.declared.State.{State}
 use Rattle.ohdr_attribute.specs.Attributes.{typeSpaceValue, nameAndValue}
@@ -17,9 +17,9 @@ pub record With (file : List ℕ) (version : ℕ) (s : State) (p q : ℕ) (a : A
 
 -- they stand nowhere from p on, and the attribute ends where they would begin, without a value
 pub record Without (file : List ℕ) (version : ℕ) (s : State) (p q : ℕ) (a : Attribute) : Type 0 where
-  pub nowhere : (m : ℕ) (value : OptionPart) → Stands file (typeSpaceValue version s) p m value → ⊥
+  pub nowhere : (m : ℕ) (value : Value) → Stands file (typeSpaceValue version s) p m value → ⊥
   pub empty : q ≡ p
-  pub absent : a .value ≡ parts.None
+  pub absent : a .value ≡ values.None
 
 -- An attribute with this name stands exactly where one of the two is so.
 pub with-or-without : (file : List ℕ) (version : ℕ) (s : State) (name : Part) (p q : ℕ) (a : Attribute)

@@ -1,4 +1,5 @@
-// The attribute message (ohdr_message.rs, message_attribute): a name, and the value of a text.
+// The attribute message (ohdr_message.rs, message_attribute): a name, and the value of a text or of a
+// number.
 use helpers::Place;
 use helpers::ReadLength;
 use helpers::ReadU8;
@@ -9,6 +10,10 @@ use helpers::le_u16;
 use helpers::take;
 use helpers::to_multiple_of_8;
 use helpers::trim_end;
+use number::NumberRead;
+use number::OptionForm;
+use number::number_form;
+use number::number_value;
 use ohdr_dataspace::ElementCount;
 use ohdr_dataspace::elements;
 use ohdr_dataspace::message_data_space;
@@ -19,17 +24,19 @@ use parser::State;
 use records::Attribute;
 use records::DataSpace;
 use records::DataType;
-use records::OptionPart;
 use records::Part;
 use records::Refusal;
+use records::Value;
 ghost use mathlib.Core.Path.{_≡_};
 ghost use Prim.Native.Nat.{ℕ};
+ghost use lib.Dec.{eqb};
 ghost use Rattle.format.specs.Format.{found, read};
 ghost use Rattle.helpers.specs.Answers.{takenOut};
 ghost use Rattle.parser.specs.States.{Widths};
 ghost use Rattle.ohdr_dataspace.specs.DataSpaces.{elements as elementsOf};
 ghost use Rattle.ohdr_dataspace.specs.Answers.{countOf};
-ghost use Rattle.ohdr_attribute.specs.Attributes.{padding, textValue, listValue, otherValue, value, spaceValue, valueless, nameAndValue, encoding, attributeFields, attribute};
+ghost use Rattle.number.specs.Forms.{numberForm};
+ghost use Rattle.ohdr_attribute.specs.Attributes.{padding, textValue, listValue, otherValue, elementValue, value, spaceValue, valueless, nameAndValue, encoding, attributeFields, attribute};
 ghost use Rattle.ohdr_attribute.specs.Answers.{fieldsOut, valueOut, attributeOut};
 
 // What stands before the name.
@@ -45,7 +52,7 @@ pub enum FieldsRead {
 
 // A value, where there is one, and the position after it.
 pub enum ValueRead {
-    Read(OptionPart, usize),
+    Read(Value, usize),
     Refused(Refusal),
 }
 
@@ -117,13 +124,11 @@ fn text_value(file: &[u8], at: usize, total: ElementCount) -> ValueRead
     let ReadLength::Value(length, next) = trim_end(file, at, n as usize) else {
         return ValueRead::Refused(Refusal::Short);
     };
-    ValueRead::Read(
-        OptionPart::Some(Part {
-            position: at,
-            length,
-        }),
-        next,
-    )
+    let text = Part {
+        position: at,
+        length,
+    };
+    ValueRead::Read(Value::Text(text), next)
 }
 
 // A variable-length value: as many bytes as its size.
@@ -136,7 +141,7 @@ fn list_value(file: &[u8], at: usize, size: u32) -> ValueRead
     let Taken::At(next) = take(file, at, size as usize) else {
         return ValueRead::Refused(Refusal::Short);
     };
-    ValueRead::Read(OptionPart::None, next)
+    ValueRead::Read(Value::None, next)
 }
 
 // The bytes of another class, passed where they are 1 to 1,048,576.
@@ -144,18 +149,44 @@ fn other_value(file: &[u8], at: usize, total: ElementCount) -> ValueRead
     ensures { λ r. ⌜ ((n : ℕ) → total ≡ countOf n → valueOut r ≡ read (now (file .entry)) (otherValue n) at) ⌝ }
 {
     let ElementCount::Count(n) = total else {
-        return ValueRead::Read(OptionPart::None, at);
+        return ValueRead::Read(Value::None, at);
     };
     if n < 1 {
-        return ValueRead::Read(OptionPart::None, at);
+        return ValueRead::Read(Value::None, at);
     }
     if 1048576 < n {
-        return ValueRead::Read(OptionPart::None, at);
+        return ValueRead::Read(Value::None, at);
     }
     let Taken::At(next) = take(file, at, n as usize) else {
         return ValueRead::Refused(Refusal::Short);
     };
-    ValueRead::Read(OptionPart::None, next)
+    ValueRead::Read(Value::None, next)
+}
+
+// One element: its number, or its bytes passed where its form has none.
+fn element_value(file: &[u8], at: usize, datatype: DataType) -> ValueRead
+    ensures { λ r. ⌜ valueOut r ≡ read (now (file .entry)) (elementValue (numberForm datatype) datatype) at ⌝ }
+{
+    let bits = datatype.class_bit_field;
+    let size = datatype.size;
+    match number_form(datatype) {
+        OptionForm::None => other_value(file, at, ElementCount::Count(size as u64)),
+        OptionForm::Some(form) => {
+            let NumberRead::Read(number, next) = number_value(file, at, form, bits, size) else {
+                return ValueRead::Refused(Refusal::Short);
+            };
+            ValueRead::Read(Value::Number(number), next)
+        }
+    }
+}
+
+fn is_one(count: ElementCount) -> bool
+    ensures { λ r. ⌜ ((n : ℕ) → count ≡ countOf n → r ≡ eqb n 1) ⌝ }
+{
+    let ElementCount::Count(n) = count else {
+        return false;
+    };
+    n == 1
 }
 
 // The value, by the type's class and size and the space's elements.
@@ -173,6 +204,9 @@ fn attribute_value(file: &[u8], at: usize, datatype: DataType, space: DataSpace)
         if 0 < size {
             return text_value(file, at, total);
         }
+    }
+    if is_one(count) {
+        return element_value(file, at, datatype);
     }
     other_value(file, at, total)
 }
@@ -207,7 +241,7 @@ fn space_and_value(
 fn without_value(name: Part, at: usize) -> AttributeRead
     ensures { λ r. ⌜ attributeOut r ≡ found (valueless name) at ⌝ }
 {
-    let value = OptionPart::None;
+    let value = Value::None;
     AttributeRead::Read(Attribute { name, value }, at)
 }
 

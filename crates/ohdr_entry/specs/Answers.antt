@@ -2,7 +2,8 @@
 use Prim.Native.Nat.{ℕ}
 use Rattle.format.specs.Format.{Out, found, refused}
 use Rattle.records.specs.Refusals.{refusalNumber}
-use Rattle.grammar.specs.Message.{Kept, Held, nameOf, partOf, rowOf}
+use Rattle.records.specs.Numbers.{valueCase, valueBits}
+use Rattle.grammar.specs.Message.{Kept, Held, nameOf, valueOf, partOf, rowOf}
 use Rattle.grammar.specs.Message as messages
 use Rattle.row.specs.declared.Row.{Row}
 use Rattle.ohdr_entry.specs.declared.Continuation.{Continuation}
@@ -24,9 +25,9 @@ abbrev pub positionOf : {A : Type 0} → Out A → Out (Unit {0})
 positionOf (found a q) = found tt q
 positionOf (refused n) = refused n
 
--- the figures of a body: its name and its part
+-- the figures of a body: its name, its part and its number
 abbrev pub figuresOf : Out Kept → Out Figures
-figuresOf (found k q) = found (record { name = nameOf k; part = partOf k }) q
+figuresOf (found k q) = found (record { name = nameOf k; part = partOf k; «number_case» = valueCase (valueOf k); «number_bits» = valueBits (valueOf k) }) q
 figuresOf (refused n) = refused n
 
 abbrev pub bodyOut : BodyRead → Out Figures

@@ -13,7 +13,8 @@ use Rattle.format.specs.Laws.{never}
 use Rattle.format.specs.Standing.{read-forward}
 use Rattle.format.specs.Steps.{after, read-bind, read-done, read-here, read-skip}
 use Rattle.records.specs.declared.OptionPart.the-variants as parts
-use Rattle.grammar.specs.Message.{Kept, Held, nameOf, partOf}
+use Rattle.records.specs.declared.Value.the-variants as values
+use Rattle.grammar.specs.Message.{Kept, Held, nameOf, valueOf, partOf}
 use Rattle.grammar.specs.Message as messages
 use Rattle.helpers.specs.declared.Place.{Place}
 use Rattle.helpers.specs.declared.Place.the-variants as places
@@ -60,14 +61,14 @@ pub position-self : (r : Out (Unit {0})) → positionOf r ≡ r
 position-self (found u q) = refl
 position-self (refused n) = refl
 
--- figures with neither name nor part
+-- figures with no name, part or number
 abbrev pub bare : Out (Unit {0}) → Out Figures
-bare (found u q) = found (record { name = parts.None; part = parts.None }) q
+bare (found u q) = found (record { name = parts.None; part = parts.None; «number_case» = 0; «number_bits» = 0 }) q
 bare (refused n) = refused n
 
 -- the row of a message with this prefix, its body at b
 abbrev pub shown : Prefix → ℕ → Out Figures → Out Seen
-shown x b (found f q) = found (row (record { kind = x .kind; flags = x .flags; size = x .size; body = b; name = f .name; part = f .part })) q
+shown x b (found f q) = found (row (record { kind = x .kind; flags = x .flags; size = x .size; body = b; name = f .name; part = f .part; «number_case» = f .«number_case»; «number_bits» = f .«number_bits» })) q
 shown x b (refused n) = refused n
 
 -- a value, where another was found
@@ -89,12 +90,12 @@ module _ (s : List ℕ) where
       go (found a q) = rw (read-done s (con a) q)
       go (refused n) = refl
 
-  -- a body with neither name nor part: its figures are known from its end
+  -- a body with no name, part or value: its figures are known from its end
   abbrev Bare : Format Kept → Type 0
   Bare F = (p : ℕ) → figuresOf (read s F p) ≡ bare (positionOf (read s F p))
 
-  bare-done : (k : Kept) → nameOf k ≡ parts.None → partOf k ≡ parts.None → Bare (done k)
-  bare-done k e d p = rw (read-done s k p, e, d)
+  bare-done : (k : Kept) → nameOf k ≡ parts.None → partOf k ≡ parts.None → valueOf k ≡ values.None → Bare (done k)
+  bare-done k e d v p = rw (read-done s k p, e, d, v)
 
   bare-bind : {A : Type 0} (F : Format A) (con : A → Kept) → ((a : A) → Bare (done (con a))) → Bare (bind F (λ a. done (con a)))
   bare-bind {A} F con h p = rw (read-bind s F (λ a. done (con a)) p) (go (read s F p))
@@ -110,17 +111,17 @@ module _ (s : List ℕ) where
   pub plain-figures : (st : State) (k p : ℕ) → figuresOf (read s (plainBody st k) p) ≡ bare (positionOf (read s (plainBody st k) p))
   unfolding plainBody
   plain-figures st k =
-      bare-pick (eqb k 1) _ _ (bare-bind (dataSpace st) messages.dataSpace (λ d. bare-done (messages.dataSpace d) refl refl)) (
-      bare-pick (eqb k 2) _ _ (bare-bind (linkInfo st) messages.linkInfo (λ l. bare-done (messages.linkInfo l) refl refl)) (
-      bare-pick (eqb k 3) _ _ (bare-bind (dataType typeLevels) messages.dataType (λ t. bare-done (messages.dataType t) refl refl)) (
+      bare-pick (eqb k 1) _ _ (bare-bind (dataSpace st) messages.dataSpace (λ d. bare-done (messages.dataSpace d) refl refl refl)) (
+      bare-pick (eqb k 2) _ _ (bare-bind (linkInfo st) messages.linkInfo (λ l. bare-done (messages.linkInfo l) refl refl refl)) (
+      bare-pick (eqb k 3) _ _ (bare-bind (dataType typeLevels) messages.dataType (λ t. bare-done (messages.dataType t) refl refl refl)) (
       bare-pick (eqb k 4) _ _ (bare-bind fillOld (λ _. messages.nothing) (λ _. none)) (
       bare-pick (eqb k 5) _ _ (bare-bind fill (λ _. messages.nothing) (λ _. none)) (
-      bare-pick (eqb k 10) _ _ (bare-bind groupInfo messages.groupInfo (λ g. bare-done (messages.groupInfo g) refl refl)) (
+      bare-pick (eqb k 10) _ _ (bare-bind groupInfo messages.groupInfo (λ g. bare-done (messages.groupInfo g) refl refl refl)) (
       bare-pick (eqb k 11) _ _ (bare-bind filterPipeline (λ _. messages.nothing) (λ _. none)) (
-      bare-pick (eqb k 21) _ _ (bare-bind (attributeInfo st) messages.attributeInfo (λ a. bare-done (messages.attributeInfo a) refl refl)) none)))))))
+      bare-pick (eqb k 21) _ _ (bare-bind (attributeInfo st) messages.attributeInfo (λ a. bare-done (messages.attributeInfo a) refl refl refl)) none)))))))
     where
       none : Bare (done messages.nothing)
-      none = bare-done messages.nothing refl refl
+      none = bare-done messages.nothing refl refl refl
 
   -- a body whose figures were found ends no earlier than it starts
   pub body-forward : (st : State) (k p q : ℕ) (f : Figures) → figuresOf (read s (body st k) p) ≡ found f q → p ≤ q

@@ -11,6 +11,8 @@ use helpers::le_u8;
 use helpers::le_u16;
 use helpers::take;
 use helpers::varint;
+use number::number_bits;
+use number::number_case;
 use ohdr_attribute::AttributeRead;
 use ohdr_attribute::message_attribute;
 use ohdr_dataspace::message_data_space;
@@ -67,10 +69,12 @@ pub enum PrefixRead {
     Refused(Refusal),
 }
 
-// What a row shows of a body: its name and its part, where it has them.
+// What a row shows of a body: its name and its part, where it has them, and its number.
 pub struct Figures {
     pub name: OptionPart,
     pub part: OptionPart,
+    pub number_case: u64,
+    pub number_bits: u64,
 }
 
 pub enum BodyRead {
@@ -165,7 +169,7 @@ fn body_attribute_info(file: &[u8], at: usize, state: State) -> Place
     }
 }
 
-// A body of which a row shows neither name nor part. A body that is skipped has no fields.
+// A body of which a row shows no name, part or number. A body that is skipped has no fields.
 fn plain_body(file: &[u8], at: usize, kind: u8, state: State) -> Place
     requires { ⌜ Widths state ⌝ }
     ensures { λ r. ⌜ placeOut r ≡ positionOf (read (now (file .entry)) (plainBody state kind) at) ⌝ }
@@ -195,6 +199,8 @@ fn body_data_layout(file: &[u8], at: usize, state: State) -> BodyRead
                 Figures {
                     name: OptionPart::None,
                     part: OptionPart::Some(data),
+                    number_case: 0,
+                    number_bits: 0,
                 },
                 next,
             )
@@ -203,7 +209,7 @@ fn body_data_layout(file: &[u8], at: usize, state: State) -> BodyRead
     }
 }
 
-// An attribute: its name, and its value as its part.
+// An attribute: its name, and its value, a text as its part.
 fn body_attribute(file: &[u8], at: usize, state: State) -> BodyRead
     requires { ⌜ Widths state ⌝ }
     ensures { λ r. ⌜ bodyOut r ≡ figuresOf (read (now (file .entry)) (attributeBody state) at) ⌝ }
@@ -211,11 +217,13 @@ fn body_attribute(file: &[u8], at: usize, state: State) -> BodyRead
     match message_attribute(file, at, state) {
         AttributeRead::Read(attribute, next) => {
             let name = attribute.name;
-            let part = attribute.value;
+            let value = attribute.value;
             BodyRead::Read(
                 Figures {
                     name: OptionPart::Some(name),
-                    part,
+                    part: value.text(),
+                    number_case: number_case(value),
+                    number_bits: number_bits(value),
                 },
                 next,
             )
@@ -241,6 +249,8 @@ fn message_kind(file: &[u8], at: usize, kind: u8, state: State) -> BodyRead
             Figures {
                 name: OptionPart::None,
                 part: OptionPart::None,
+                number_case: 0,
+                number_bits: 0,
             },
             next,
         ),
@@ -327,6 +337,8 @@ fn entry_message(file: &[u8], body_at: usize, prefix: Prefix, state: State) -> E
                     body: body_at,
                     name,
                     part,
+                    number_case: figures.number_case,
+                    number_bits: figures.number_bits,
                 },
                 next,
             )

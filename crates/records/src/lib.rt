@@ -2,6 +2,7 @@
 // the reasons for which a file or a header is refused.
 ghost use mathlib.Core.Path.{_≡_};
 ghost use Rattle.records.specs.Refusals.{refusalNumber};
+ghost use Rattle.records.specs.Numbers.{valueText};
 ghost use Rattle.records.specs.Defaults.{noDimensions, defaultDataSpace, defaultLinkInfo, defaultGroupInfo, defaultAttributeInfo, defaultDataType, defaultDataLayout};
 
 // Why a file or a header is refused. `refusalNumber` gives each its number.
@@ -320,8 +321,38 @@ impl DataLayout {
     }
 }
 
-// An attribute's name, and its value where it has one.
+// A number: a whole one, without or with a sign, a single or a double, its bits as they are stored.
+// A NaN never is a float here: it would lose its sign and its payload. It is held by its bits.
+pub enum Number {
+    Unsigned(u64),
+    Signed(i64),
+    Single(f32),
+    Double(f64),
+    SingleNan(u32),
+    DoubleNan(u64),
+}
+
+// The value of an attribute: a text, as bytes of the file, or a number; many have none.
+pub enum Value {
+    None,
+    Text(Part),
+    Number(Number),
+}
+
+impl Value {
+    pub fn text(self) -> OptionPart
+        ensures { λ r. ⌜ r ≡ valueText self ⌝ }
+    {
+        match self {
+            Value::None => OptionPart::None,
+            Value::Text(p) => OptionPart::Some(p),
+            Value::Number(_) => OptionPart::None,
+        }
+    }
+}
+
+// An attribute's name, and its value.
 pub struct Attribute {
     pub name: Part,
-    pub value: OptionPart,
+    pub value: Value,
 }

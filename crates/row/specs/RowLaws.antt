@@ -19,7 +19,8 @@ pub length-words : (r : Row) → length (words r) ≡ rowWords
 length-words r =
     let a = partWords (r .name) in
     let b = partWords (r .part) in
-    omega (arith, length-append a b, length-partWords (r .name), length-partWords (r .part))
+    let n = r .«number_case» ∷ r .«number_bits» ∷ [] in
+    omega (arith, length-append a (b ++ n), length-append b n, length-partWords (r .name), length-partWords (r .part))
 
 pub length-encode : (rs : List Row) → length (encode rs) ≡ length rs * rowWords
 length-encode [] = refl
@@ -75,8 +76,10 @@ row-read : (r : Row) (ys : List ℕ) → rowAt (words r ++ ys) 0 ≡ r
 unfolding rowAt partAt
 row-read r ys = go (r .name) (r .part)
   where
-    go : (name part : OptionPart) → rowAt (words (record { kind = r .kind; flags = r .flags; size = r .size; body = r .body; name = name; part = part }) ++ ys) 0
-        ≡ record { kind = r .kind; flags = r .flags; size = r .size; body = r .body; name = name; part = part }
+    with : OptionPart → OptionPart → Row
+    with name part = record { kind = r .kind; flags = r .flags; size = r .size; body = r .body; name = name; part = part; «number_case» = r .«number_case»; «number_bits» = r .«number_bits» }
+
+    go : (name part : OptionPart) → rowAt (words (with name part) ++ ys) 0 ≡ with name part
     go (parts.Some p) (parts.Some q) = refl
     go (parts.Some p) parts.None = refl
     go parts.None (parts.Some q) = refl
@@ -93,6 +96,8 @@ row-behind rs ys =
       word-behind (encode rs) ys (length rs * rowWords + 3) 3 (omega (arith, n)),
       part-behind (encode rs) ys (length rs * rowWords + 4) 4 (omega (arith, n)),
       part-behind (encode rs) ys (length rs * rowWords + 7) 7 (omega (arith, n)),
+      word-behind (encode rs) ys (length rs * rowWords + 10) 10 (omega (arith, n)),
+      word-behind (encode rs) ys (length rs * rowWords + 11) 11 (omega (arith, n)),
     )
 
 -- the row behind rs is the one that was written there, whatever follows it
@@ -120,13 +125,20 @@ rows-written pre (r ∷ rs) ys t e =
 pub written-read : (rs : List Row) (ys : List ℕ) → firstRows (encode rs ++ ys) (length rs) ≡ rs
 written-read rs ys = let d : length rs ≡ 0 + length rs = omega arith in ap (firstRows (encode rs ++ ys)) d ∙ rows-written [] rs ys (encode rs ++ ys) refl
 
--- the first four words stored, and then name and part
-module _ (t : List ℕ) (i a b c d : ℕ) where
+-- the first four words stored, then name and part, and then the number
+module _ (t : List ℕ) (i a b c d e f : ℕ) where
   abbrev pub four : List ℕ
   four = set (set (set (set t i a) (i + 1) b) (i + 2) c) (i + 3) d
 
-  pub row-stored : (p q : OptionPart) → sets (sets four (i + 4) (partWords p)) (i + 7) (partWords q) ≡ sets t i ((a ∷ b ∷ c ∷ d ∷ []) ++ (partWords p ++ partWords q))
-  row-stored (parts.Some p) (parts.Some q) = simp towards-suc
-  row-stored (parts.Some p) parts.None = simp towards-suc
-  row-stored parts.None (parts.Some q) = simp towards-suc
-  row-stored parts.None parts.None = simp towards-suc
+  pub row-stored : (p q : OptionPart) → set (set (sets (sets four (i + 4) (partWords p)) (i + 7) (partWords q)) (i + 10) e) (i + 11) f
+      ≡ sets t i ((a ∷ b ∷ c ∷ d ∷ []) ++ (partWords p ++ (partWords q ++ (e ∷ f ∷ []))))
+  row-stored p q =
+      let vs = a ∷ b ∷ c ∷ d ∷ [] in
+      let ps = partWords p in
+      let qs = partWords q in
+      let ns = e ∷ f ∷ [] in
+      let v : four ≡ sets t i vs = simp towards-suc in
+      let n : i + 4 + length ps ≡ i + 7 = omega (arith, length-partWords p) in
+      let m : i + 7 + length qs ≡ i + 10 = omega (arith, length-partWords q) in
+      let o : i + 11 ≡ suc (i + 10) = omega arith in
+      rw (v, sets-append vs (ps ++ (qs ++ ns)) t i, sets-append ps (qs ++ ns) (sets t i vs) (i + 4), n, sets-append qs ns (sets (sets t i vs) (i + 4) ps) (i + 7), m, o)

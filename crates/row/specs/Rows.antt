@@ -11,16 +11,16 @@ use Rattle.row.specs.declared.Row.{Row}
 
 -- words of a row
 abbrev pub rowWords : ℕ
-rowWords = 10
+rowWords = 12
 
 -- a part in three words: whether it is there, its position and its length; zeros where it is not
 abbrev pub partWords : OptionPart → List ℕ
 partWords (parts.Some p) = 1 ∷ p .position ∷ p .length ∷ []
 partWords parts.None = 0 ∷ 0 ∷ 0 ∷ []
 
--- a row's words: type, flags, size, body position, and three words each for name and part
+-- a row's words: type, flags, size, body position, three words each for name and part, and which number it has, and its bits
 abbrev pub words : Row → List ℕ
-words r = (r .kind ∷ r .flags ∷ r .size ∷ r .body ∷ []) ++ (partWords (r .name) ++ partWords (r .part))
+words r = (r .kind ∷ r .flags ∷ r .size ∷ r .body ∷ []) ++ (partWords (r .name) ++ (partWords (r .part) ++ (r .«number_case» ∷ r .«number_bits» ∷ [])))
 
 -- the words of rows, one row after another
 abbrev pub encode : List Row → List ℕ
@@ -49,6 +49,8 @@ rowAt t i = record {
   body = getD t (i * rowWords + 3) 0;
   name = partAt t (i * rowWords + 4);
   part = partAt t (i * rowWords + 7);
+  «number_case» = getD t (i * rowWords + 10) 0;
+  «number_bits» = getD t (i * rowWords + 11) 0;
 }
 
 -- the first n rows of a table

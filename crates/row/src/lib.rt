@@ -10,10 +10,10 @@ ghost use lib.Seq.{sets};
 ghost use Rattle.row.specs.Rows.{rowWords, partWords, partAt, rowAt, putRow};
 
 // The words of a row.
-pub const ROW_WORDS: usize = 10;
+pub const ROW_WORDS: usize = 12;
 
-// A message's type, flags and size, the position of its body, and its name and its part, where it
-// has them.
+// A message's type, flags and size, the position of its body, its name and its part, where it has
+// them, and which number it has, and the number's bits.
 pub struct Row {
     pub kind: u64,
     pub flags: u64,
@@ -21,6 +21,8 @@ pub struct Row {
     pub body: usize,
     pub name: OptionPart,
     pub part: OptionPart,
+    pub number_case: u64,
+    pub number_bits: u64,
 }
 
 // The whole rows of a table.
@@ -63,6 +65,8 @@ pub fn put_row(table: &mut [u64], i: usize, row: Row)
     let part = row.part;
     put_part(table, first + 4, name);
     put_part(table, first + 7, part);
+    table[first + 10] = row.number_case;
+    table[first + 11] = row.number_bits;
 }
 
 // A part in three words of the table, read: there is one where its first word is 1.
@@ -94,6 +98,8 @@ pub fn row_at(table: &[u64], i: usize) -> Row
         body: table[first + 3] as usize,
         name,
         part,
+        number_case: table[first + 10],
+        number_bits: table[first + 11],
     }
 }
 

@@ -12,6 +12,7 @@ pub mod Storage
 pub mod Datatypes
 pub mod DatatypeBounds
 pub mod DatatypeRules
+pub mod Numbers
 pub mod Attributes
 pub mod AttributeRules
 pub mod Examples

@@ -1,6 +1,6 @@
 -- Datatype, dataspace and data of an attribute, as they are read and as the standard has them. Assumes nothing.
 use Prim.Native.Nat.{ℕ, _+_, _-_, _*_, _%_, _≤_, _<_}
-use mathlib.Core.Path.{_≡_, refl, sym, ap, _∙_, subst₃}
+use mathlib.Core.Path.{_≡_, refl, sym, ap, _∙_, subst, subst₂}
 use mathlib.Core.Logic.{_⊎_, inl, inr}
 use mathlib.Core.Bool.{Bool, true, false, _&&_}
 use mathlib.Core.List.{List, [], _∷_}
@@ -12,14 +12,20 @@ use Rattle.format.specs.Bytes.{le, Trimmed}
 use Rattle.format.specs.BytesLaws.{by-le}
 use Rattle.format.specs.Format.{Format, done, number, skip, here, Stands, bind, pick}
 use Rattle.format.specs.Standing.{stands-bind, stands-check, bind-stands}
-use Rattle.records.specs.declared.OptionPart.{OptionPart}
-use Rattle.records.specs.declared.OptionPart.the-variants as parts
+use Rattle.records.specs.declared.Value.{Value}
+use Rattle.records.specs.declared.Value.the-variants as values
 use Rattle.records.specs.declared.DataType.{DataType}
 use Rattle.records.specs.declared.DataSpace.{DataSpace}
 use Rattle.parser.specs.declared.State.{State}
-use Rattle.ohdr_datatype.specs.DataTypes.{classOf, dataType, typeLevels}
+use Rattle.number.specs.declared.NumberForm.{NumberForm}
+use Rattle.number.specs.declared.OptionForm.{OptionForm}
+use Rattle.number.specs.declared.OptionForm.the-variants as options
+use Rattle.number.specs.Forms.{numberForm}
+use Rattle.number.specs.Values.{numberOf, numberValue}
+use Rattle.number.specs.Kept.{stored, number-room, number-stands}
+use Rattle.ohdr_datatype.specs.DataTypes.{dataType, typeLevels}
 use Rattle.ohdr_dataspace.specs.DataSpaces as spaces
-use Rattle.ohdr_attribute.specs.Attributes.{padding, textValue, listValue, otherValue, value, spaceValue, typeSpaceValue}
+use Rattle.ohdr_attribute.specs.Attributes.{padding, textValue, listValue, otherValue, elementValue, value, spaceValue, typeSpaceValue}
 use Rattle.standard.specs.Fields.{only}
 use Rattle.standard.specs.Tie.{Stood}
 use Rattle.standard.specs.Datatypes.{class, Datatype, headerOf, datatypeMessage}
@@ -31,6 +37,8 @@ use Rattle.standard_datatype.specs.Differences.{TypeDiffers}
 use Rattle.standard_datatype.specs.Ties.{datatype-tied}
 use Rattle.standard_messages.specs.Dataspaces.{SameDataspace, dataspace-tied}
 use Rattle.standard_attribute.specs.Differences.{ElementsDiffer, scalar-with-sizes, null, ContentsDiffer, in-datatype, other-datatype-size, other-dataspace-size, other-elements, variable-length-elements, long-data}
+use Rattle.standard_attribute.specs.SameNumbers.{AreBytes, HasNumber, SameNumber}
+use Rattle.standard_attribute.specs.NumberForms.{FormIs, form-has, form-said, number-formed, number-class, number-same, no-form}
 use Rattle.standard_attribute.specs.Same.{PaddedText, SameValue}
 use Rattle.standard_attribute.specs.TextValues.{sizesOf}
 
@@ -44,69 +52,114 @@ padded-length s p m l n h i = by-le l n (λ a. by-le n l (λ b. omega arith) (λ
 
 module _ (s : List ℕ) where
   -- what stands as the value is the data field of n elements, or the two differ
-  data ValueTied (class size n p q : ℕ) (v : OptionPart) : Type 0 where
-    other-lists : class ≡ 9 → (n ≡ 1 → ⊥) → ValueTied class size n p q v
-    too-long : (class ≡ 3 → ⊥) → (class ≡ 9 → ⊥) → 1048576 < n * size → ValueTied class size n p q v
-    same : p + n * size ≤ length s → p + n * size ≡ q → SameValue s v class size (record { position = p; length = n * size }) → ValueTied class size n p q v
+  data ValueTied (t : Datatype) (n p q : ℕ) (v : Value) : Type 0 where
+    other-lists : class (headerOf t) ≡ 9 → (n ≡ 1 → ⊥) → ValueTied t n p q v
+    too-long : (class (headerOf t) ≡ 3 → ⊥) → (class (headerOf t) ≡ 9 → ⊥) → 1048576 < n * headerOf t .size → ValueTied t n p q v
+    same : p + n * headerOf t .size ≤ length s → p + n * headerOf t .size ≡ q → SameValue s v t n (record { position = p; length = n * headerOf t .size }) → ValueTied t n p q v
 
-  abbrev Passed : ℕ → ℕ → ℕ → OptionPart → Type 0
-  Passed m p q v = (p + m ≤ length s) × (p + m ≡ q) × (v ≡ parts.None)
+  abbrev Passed : ℕ → ℕ → ℕ → Value → Type 0
+  Passed m p q v = (p + m ≤ length s) × (p + m ≡ q) × (v ≡ values.None)
 
   -- bytes that are passed, unless they are too many
-  other-passed : (m p q : ℕ) (v : OptionPart) → p ≤ length s → Stands s (otherValue m) p q v → (1048576 < m) ⊎ Passed m p q v
+  other-passed : (m p q : ℕ) (v : Value) → p ≤ length s → Stands s (otherValue m) p q v → (1048576 < m) ⊎ Passed m p q v
   unfolding otherValue
   other-passed m p q v l h = go (leb 1 m) refl (leb m 1048576) refl h
     where
-      go : (a : Bool) → leb 1 m ≡ a → (b : Bool) → leb m 1048576 ≡ b → Stands s (pick (a && b) (skip m (done parts.None)) (done parts.None)) p q v → (1048576 < m) ⊎ Passed m p q v
+      go : (a : Bool) → leb 1 m ≡ a → (b : Bool) → leb m 1048576 ≡ b → Stands s (pick (a && b) (skip m (done values.None)) (done values.None)) p q v → (1048576 < m) ⊎ Passed m p q v
       go true e true f h = inr (h .0, h .1 .0, sym (h .1 .1))
       go true e false f h = inl (leb-false m 1048576 f)
       go false e b f h = let z = leb-false 1 m e in inr (omega arith, omega (arith, h .0), sym (h .1))
 
-  -- a class of which no value is handed out
-  none : (class size p m : ℕ) (v : OptionPart) → (class ≡ 3 → 0 < size → ⊥) → v ≡ parts.None → SameValue s v class size (record { position = p; length = m })
-  none class size p m v h e = record { text = λ c l. absurd (h c l); other = λ _. e }
+  module _ (t : Datatype) (n p q : ℕ) (v : Value) (inside : p ≤ length s) where
+    abbrev size : ℕ
+    size = headerOf t .size
 
-  module _ (class size n p q : ℕ) (v : OptionPart) (inside : p ≤ length s) where
-    text-tied : class ≡ 3 → 0 < size → Stands s (textValue (n * size)) p q v → ValueTied class size n p q v
+    abbrev NoText : Type 0
+    NoText = class (headerOf t) ≡ 3 → 0 < size → ⊥
+
+    abbrev NoNumber : Type 0
+    NoNumber = n ≡ 1 → HasNumber t → ⊥
+
+    -- neither a text nor a number: no value is handed out
+    none : NoText → NoNumber → v ≡ values.None → SameValue s v t n (record { position = p; length = n * size })
+    none h k e = record { text = λ c l. absurd (h c l); number = λ _ o w. absurd (k o w); other = λ _ _. e }
+
+    no-number : 2 ≤ class (headerOf t) → NoNumber
+    no-number c o w = omega (arith, number-class t w)
+
+    text-tied : class (headerOf t) ≡ 3 → 0 < size → Stands s (textValue (n * size)) p q v → ValueTied t n p q v
     unfolding textValue
     text-tied c l h =
         same (h .1 .inside) (h .2 .0)
         (record {
           text = λ _ _. (record { position = p; length = h .0 }, sym (h .2 .1), record { position = refl; length = h .1 }, λ k i. padded-length s p (n * size) (h .0) k (h .1) i);
-          other = λ f. absurd (f c l);
+          number = λ _ o w. absurd (no-number (omega arith) o w);
+          other = λ f _. absurd (f c l);
         })
 
-    list-tied : class ≡ 9 → Stands s (listValue size) p q v → ValueTied class size n p q v
+    list-tied : class (headerOf t) ≡ 9 → Stands s (listValue size) p q v → ValueTied t n p q v
     unfolding listValue
-    list-tied c h = go (eqb n 1) refl (stands-check s (leb size 12) 17 (skip size (done parts.None)) p q v h .1)
+    list-tied c h = go (eqb n 1) refl (stands-check s (leb size 12) 17 (skip size (done values.None)) p q v h .1)
       where
-        go : (t : Bool) → eqb n 1 ≡ t → Stands s (skip size (done parts.None)) p q v → ValueTied class size n p q v
+        go : (a : Bool) → eqb n 1 ≡ a → Stands s (skip size (done values.None)) p q v → ValueTied t n p q v
         go true e h =
             let m : n * size ≡ size = rw (eqb-true n 1 e) (omega arith) in
-            same (rw m (h .0)) (rw m (h .1 .0)) (none class size p (n * size) v (λ d _. omega arith) (sym (h .1 .1)))
+            same (rw m (h .0)) (rw m (h .1 .0)) (none (λ d _. omega arith) (no-number (omega arith)) (sym (h .1 .1)))
         go false e h = other-lists c (eqb-false n 1 e)
 
-    other-tied : (class ≡ 3 → 0 < size → ⊥) → (class ≡ 9 → ⊥) → Stands s (otherValue (n * size)) p q v → ValueTied class size n p q v
-    other-tied c d h = go (other-passed (n * size) p q v inside h)
+    other-tied : NoText → (class (headerOf t) ≡ 9 → ⊥) → NoNumber → Stands s (otherValue (n * size)) p q v → ValueTied t n p q v
+    other-tied c d k h = go (other-passed (n * size) p q v inside h)
       where
-        go : (1048576 < n * size) ⊎ Passed (n * size) p q v → ValueTied class size n p q v
+        go : (1048576 < n * size) ⊎ Passed (n * size) p q v → ValueTied t n p q v
         go (inl m) = too-long (λ e. c e (by-le 1 size (λ l. l) (λ l. let z : size ≡ 0 = omega arith in let y : n * size ≡ 0 = rw z (omega arith) in absurd (omega arith)))) d m
-        go (inr w) = same (w .0) (w .1) (none class size p (n * size) v c (w .2))
+        go (inr w) = same (w .0) (w .1) (none c k (w .2))
 
-    value-by : Stands s (pick (eqb class 3 && ltb 0 size) (textValue (n * size)) (pick (eqb class 9) (listValue size) (otherValue (n * size)))) p q v → ValueTied class size n p q v
-    value-by h = go (eqb class 3) refl (ltb 0 size) refl (eqb class 9) refl h
-      where
-        go : (a : Bool) → eqb class 3 ≡ a → (b : Bool) → ltb 0 size ≡ b → (d : Bool) → eqb class 9 ≡ d
-            → Stands s (pick (a && b) (textValue (n * size)) (pick d (listValue size) (otherValue (n * size)))) p q v → ValueTied class size n p q v
-        go true e true f d g h = text-tied (eqb-true class 3 e) (ltb-true 0 size f) h
-        go true e false f true g h = let x = eqb-true class 3 e in let y = eqb-true class 9 g in absurd (omega arith)
-        go true e false f false g h = other-tied (λ _ l. let y = ltb-false 0 size f in omega arith) (eqb-false class 9 g) h
-        go false e b f true g h = list-tied (eqb-true class 9 g) h
-        go false e b f false g h = other-tied (λ x _. eqb-false class 3 e x) (eqb-false class 9 g) h
+    module _ (u : DataType) (i : SameType u t) where
+      -- one element: it has a number exactly where the standard's form has one
+      element-tied : NoText → (class (headerOf t) ≡ 9 → ⊥) → n ≡ 1 → Stands s (elementValue (numberForm u) u) p q v → ValueTied t n p q v
+      element-tied c d o h = go (numberForm u) refl h
+        where
+          m : n * size ≡ u .size
+          m = rw (o, ← i .header .size) (omega arith)
 
-  value-tied : (t : DataType) (n p q : ℕ) (v : OptionPart) → p ≤ length s → Stands s (value t n) p q v → ValueTied (classOf (t .«class_and_version»)) (t .size) n p q v
+          go : (f : OptionForm) → numberForm u ≡ f → Stands s (elementValue f u) p q v → ValueTied t n p q v
+          go options.None e h = other-tied c d (λ _ w. let f = number-formed u t (i .header) (i .properties) w in no-form (sym e ∙ f .1)) (rw m h)
+          go (options.Some form) e h =
+              let b = stands-bind s (numberValue form (u .«class_bit_field») (u .size)) (λ x. done (values.Number x)) p q v h in
+              let r = number-room s form (u .«class_bit_field») (u .size) p (b .0) (b .1) (b .2) in
+              let w = form-said u t form (i .header) (i .properties) (i .of-class) e in
+              same (rw m (r .0)) (rw m (r .1 ∙ b .3 .0))
+              (record {
+                text = λ c3 l. absurd (c c3 l);
+                number = λ bytes _ _. (b .1, sym (b .3 .1), rw (number-stands s bytes form (u .«class_bit_field») (u .size) p (b .0) (b .1) (b .2)) (element bytes form w));
+                other = λ _ k. absurd (k o (form-has w));
+              })
+            where
+              element : (bytes : AreBytes s) (form : NumberForm) → FormIs form t → SameNumber s t p (numberOf form (u .size) (stored s (u .«class_bit_field») p (u .size)))
+              element bytes form w = rw (i .header .size, i .header .class-bit-field) (number-same s bytes form t p w)
+
+      value-by : Stands s (pick (eqb (class (headerOf t)) 3 && ltb 0 size) (textValue (n * size)) (pick (eqb (class (headerOf t)) 9) (listValue size) (pick (eqb n 1) (elementValue (numberForm u) u) (otherValue (n * size))))) p q v
+          → ValueTied t n p q v
+      value-by h = go (eqb (class (headerOf t)) 3) refl (ltb 0 size) refl (eqb (class (headerOf t)) 9) refl h
+        where
+          plain : NoText → (class (headerOf t) ≡ 9 → ⊥) → (a : Bool) → eqb n 1 ≡ a → Stands s (pick a (elementValue (numberForm u) u) (otherValue (n * size))) p q v → ValueTied t n p q v
+          plain c d true e h = element-tied c d (eqb-true n 1 e) h
+          plain c d false e h = other-tied c d (λ o _. eqb-false n 1 e o) h
+
+          go : (a : Bool) → eqb (class (headerOf t)) 3 ≡ a → (b : Bool) → ltb 0 size ≡ b → (d : Bool) → eqb (class (headerOf t)) 9 ≡ d
+              → Stands s (pick (a && b) (textValue (n * size)) (pick d (listValue size) (pick (eqb n 1) (elementValue (numberForm u) u) (otherValue (n * size))))) p q v → ValueTied t n p q v
+          go true e true f d g h = text-tied (eqb-true (class (headerOf t)) 3 e) (ltb-true 0 size f) h
+          go true e false f true g h = let x = eqb-true (class (headerOf t)) 3 e in let y = eqb-true (class (headerOf t)) 9 g in absurd (omega arith)
+          go true e false f false g h = plain (λ _ l. let y = ltb-false 0 size f in omega arith) (eqb-false (class (headerOf t)) 9 g) (eqb n 1) refl h
+          go false e b f true g h = list-tied (eqb-true (class (headerOf t)) 9 g) h
+          go false e b f false g h = plain (λ x _. eqb-false (class (headerOf t)) 3 e x) (eqb-false (class (headerOf t)) 9 g) (eqb n 1) refl h
+
+  value-tied : (u : DataType) (t : Datatype) → SameType u t → (n p q : ℕ) (v : Value) → p ≤ length s → Stands s (value u n) p q v → ValueTied t n p q v
   unfolding value
-  value-tied t n p q v l h = value-by (classOf (t .«class_and_version»)) (t .size) n p q v l h
+  value-tied u t i n p q v l h =
+      value-by t n p q v l u i
+      (subst₂ (λ (c z : ℕ). Stands s (pick (eqb c 3 && ltb 0 z) (textValue (n * z)) (pick (eqb c 9) (listValue z) (pick (eqb n 1) (elementValue (numberForm u) u) (otherValue (n * z))))) p q v)
+      (ap (λ (y : ℕ). y % 16) (i .header .class-and-version)) (i .header .size) h)
 
 -- a description that ends where its size says
 sized-stands : {A : Type 0} (s : List ℕ) (n : ℕ) (F : Format A) (p q : ℕ) (a : A) → Stands s F p q a → q ≡ p + n → Stands s (sized n F) p q a
@@ -155,33 +208,24 @@ module _ (s : List ℕ) (state : State) (longest : ℕ) (wide : 4095 ≤ longest
     theDescribed = described longest typeLevels (state .«size_of_lengths») pad datatype-size dataspace-size
 
     -- datatype, dataspace and data of the standard stand from p to q, and the value is that of the data field
-    pub record Held (p q : ℕ) (v : OptionPart) : Type 0 where
+    pub record Held (p q : ℕ) (v : Value) : Type 0 where
       pub contents : Described
       pub upto : ℕ
       pub stands : Stands s theDescribed p upto contents
       pub inside : upto + rawSize contents ≤ length s
       pub end : upto + rawSize contents ≡ q
       pub members : Each ScalarMembers (contents .datatype)
-      pub value : SameValue s v (class (headerOf (contents .datatype))) (headerOf (contents .datatype) .size) (record { position = upto; length = rawSize contents })
+      pub value : SameValue s v (contents .datatype) (elements (contents .dataspace)) (record { position = upto; length = rawSize contents })
 
-    abbrev Contents : ℕ → ℕ → OptionPart → Type 0
+    abbrev Contents : ℕ → ℕ → Value → Type 0
     Contents p q v = ContentsDiffer s state longest version pad datatype-size dataspace-size p ⊎ Held p q v
 
     -- the data, after both descriptions
-    data-tied : (p m q : ℕ) (x : Described) (t : DataType) (d : DataSpace) (v : OptionPart) → Stands s theDescribed p m x → SameType t (x .datatype) → SameDataspace d (x .dataspace)
+    data-tied : (p m q : ℕ) (x : Described) (t : DataType) (d : DataSpace) (v : Value) → Stands s theDescribed p m x → SameType t (x .datatype) → SameDataspace d (x .dataspace)
         → m ≤ length s → Stands s (value t (spaces.elements d)) m q v → Contents p q v
     data-tied p m q x t d v h i j l k = count (elements-by (x .dataspace))
       where
-        c : ℕ
-        c = class (headerOf (x .datatype))
-
-        size : ℕ
-        size = headerOf (x .datatype) .size
-
-        n : ℕ
-        n = elements (x .dataspace)
-
-        split : ValueTied s c size n m q v → Contents p q v
+        split : ValueTied s (x .datatype) (elements (x .dataspace)) m q v → Contents p q v
         split (other-lists a b) = inl (variable-length-elements m x h a b)
         split (too-long a b g) = inl (long-data m x h a b g)
         split (same a b g) = inr (record { contents = x; upto = m; stands = h; inside = a; end = b; members = i .members; value = g })
@@ -189,8 +233,7 @@ module _ (s : List ℕ) (state : State) (longest : ℕ) (wide : 4095 ≤ longest
         count : ElementsDiffer (x .dataspace) ⊎ (product (sizesOf (x .dataspace)) ≡ elements (x .dataspace)) → Contents p q v
         count (inl e) = inl (other-elements m x h e)
         count (inr e) =
-            let w = value-tied s t (spaces.elements d) m q v l k in
-            split (subst₃ (λ (a b g : ℕ). ValueTied s a b g m q v) (ap (λ (y : ℕ). y % 16) (i .header .class-and-version)) (i .header .size) (elements-same d (x .dataspace) j e) w)
+            split (subst (λ (g : ℕ). ValueTied s (x .datatype) g m q v) (elements-same d (x .dataspace) j e) (value-tied s t (x .datatype) i (spaces.elements d) m q v l k))
 
     abbrev theContents : Datatype → ℕ → Dataspace → ℕ → Described
     theContents t a d b = record { datatype = t; datatype-padding = a; dataspace = d; dataspace-padding = b }
@@ -209,7 +252,7 @@ module _ (s : List ℕ) (state : State) (longest : ℕ) (wide : 4095 ≤ longest
         )
 
     -- the dataspace's size is the one that is written, or not
-    space-sized : (p m upto q : ℕ) (b : Datatype) (t : DataType) (d : DataSpace) (v : OptionPart) → Stands s (sized datatype-size theTypes) p m b → SameType t b
+    space-sized : (p m upto q : ℕ) (b : Datatype) (t : DataType) (d : DataSpace) (v : Value) → Stands s (sized datatype-size theTypes) p m b → SameType t b
         → m + pad datatype-size ≤ length s → Stood SameDataspace theSpaces s (m + pad datatype-size) upto d
         → Stands s (skip (padding version (upto - (m + pad datatype-size))) (value t (spaces.elements d))) upto q v → Contents p q v
     space-sized p m upto q b t d v h i l x k = go (eqb upto (m + pad datatype-size + dataspace-size)) refl
@@ -225,7 +268,7 @@ module _ (s : List ℕ) (state : State) (longest : ℕ) (wide : 4095 ≤ longest
             i (x .related) (r .0) (r .1)
 
     -- the dataspace and what follows it, after the datatype
-    space-tied : (p m q : ℕ) (b : Datatype) (t : DataType) (v : OptionPart) → Stands s (sized datatype-size theTypes) p m b → SameType t b → m + pad datatype-size ≤ length s
+    space-tied : (p m q : ℕ) (b : Datatype) (t : DataType) (v : Value) → Stands s (sized datatype-size theTypes) p m b → SameType t b → m + pad datatype-size ≤ length s
         → Stands s (spaceValue version state t) (m + pad datatype-size) q v → Contents p q v
     unfolding spaceValue
     space-tied p m q b t v h i l k =
@@ -234,7 +277,7 @@ module _ (s : List ℕ) (state : State) (longest : ℕ) (wide : 4095 ≤ longest
         space-sized p m (u .0) q b t (u .1) v h i l (dataspace-tied state .ties s from (u .0) (u .1) (u .2)) (u .3)
 
     -- the datatype's size is the one that is written, or not
-    type-sized : (p m q : ℕ) (t : DataType) (v : OptionPart) → TypeDiffers longest s p ⊎ Stood SameType theTypes s p m t
+    type-sized : (p m q : ℕ) (t : DataType) (v : Value) → TypeDiffers longest s p ⊎ Stood SameType theTypes s p m t
         → Stands s (skip (padding version (m - p)) (spaceValue version state t)) m q v → Contents p q v
     type-sized p m q t v (inl d) k = inl (in-datatype d)
     type-sized p m q t v (inr x) k = go (eqb m (p + datatype-size)) refl
@@ -248,7 +291,7 @@ module _ (s : List ℕ) (state : State) (longest : ℕ) (wide : 4095 ≤ longest
             space-tied p m q (x .value) t v (sized-stands s datatype-size theTypes p m (x .value) (x .stands) g) (x .related) (r .0) (r .1)
 
     -- datatype, dataspace and data that are read are the standard's, or a listed difference applies
-    pub contents-tied : (p q : ℕ) (v : OptionPart) → Stands s (typeSpaceValue version state) p q v → Contents p q v
+    pub contents-tied : (p q : ℕ) (v : Value) → Stands s (typeSpaceValue version state) p q v → Contents p q v
     unfolding typeSpaceValue
     contents-tied p q v h =
         let w = stands-bind s (dataType typeLevels) (λ t. here (λ m. skip (padding version (m - p)) (spaceValue version state t))) p q v h in

@@ -7,7 +7,7 @@ use mathlib.Core.List.{List, []}
 use Rattle.format.specs.Bits.{bit}
 use Rattle.format.specs.Bytes.{toMultipleOf8}
 use Rattle.format.specs.Format.{Stands}
-use Rattle.records.specs.declared.OptionPart.{OptionPart}
+use Rattle.records.specs.declared.Value.{Value}
 use Rattle.parser.specs.declared.State.{State}
 use Rattle.ohdr_datatype.specs.DataTypes.{typeLevels}
 use Rattle.ohdr_attribute.specs.Attributes.{typeSpaceValue}
@@ -28,7 +28,7 @@ module _ (s : List ℕ) (state : State) (longest : ℕ) where
   -- datatype, dataspace and data of an attribute, from p on, differ; padding is the version's, and the two sizes are those that are written
   pub data ContentsDiffer (version : ℕ) (padding : ℕ → ℕ) (datatype-size dataspace-size p : ℕ) : Type 0 where
     -- 56: they have no reading, and the attribute stands without a value
-    no-reading : ((q : ℕ) (value : OptionPart) → Stands s (typeSpaceValue version state) p q value → ⊥) → ContentsDiffer version padding datatype-size dataspace-size p
+    no-reading : ((q : ℕ) (value : Value) → Stands s (typeSpaceValue version state) p q value → ⊥) → ContentsDiffer version padding datatype-size dataspace-size p
     -- 34, 35: the datatype differs
     in-datatype : TypeDiffers longest s p → ContentsDiffer version padding datatype-size dataspace-size p
     -- 53: the datatype's size is not the one that is written

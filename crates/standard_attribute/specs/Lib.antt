@@ -1,11 +1,13 @@
 pub mod Differences
+pub mod SameNumbers
+pub mod NumberForms
 pub mod Same
 pub mod TextValues
 pub mod Contents
 pub mod Ties
 pub mod Rules
 pub mod ReadSpaces
-pub mod ReadStrings
+pub mod ReadElements
 pub mod Values
 pub mod TextSamples
 pub mod Samples

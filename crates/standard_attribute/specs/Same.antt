@@ -5,16 +5,18 @@ use mathlib.Core.List.{List}
 use lib.ListN.{getD}
 use Rattle.format.specs.Bytes.{Trimmed}
 use Rattle.format.specs.Format.{Stands}
-use Rattle.records.specs.declared.OptionPart.{OptionPart}
-use Rattle.records.specs.declared.OptionPart.the-variants as parts
 use Rattle.records.specs.declared.Part.{Part}
+use Rattle.records.specs.declared.Number.{Number}
+use Rattle.records.specs.declared.Value.{Value}
+use Rattle.records.specs.declared.Value.the-variants as values
 use Rattle.records.specs.declared.Attribute as ours
 use Rattle.standard.specs.Fields.{Bytes}
-use Rattle.standard.specs.Datatypes.{class, headerOf}
+use Rattle.standard.specs.Datatypes.{class, Datatype, headerOf}
 use Rattle.standard.specs.DatatypeRules.{Each}
 use Rattle.standard.specs.AttributeRules.{NullTerminated}
 use Rattle.standard_datatype.specs.Same.{ScalarMembers}
-use Rattle.standard.specs.Attributes.{Sizes1, sizes1, Sizes3, sizes3, Described, Attribute, of-version-1, of-version-3}
+use Rattle.standard.specs.Attributes.{Sizes1, sizes1, Sizes3, sizes3, Described, elements, Attribute, of-version-1, of-version-3}
+use Rattle.standard_attribute.specs.SameNumbers.{AreBytes, HasNumber, SameNumber}
 
 -- a part of the file is the bytes of a field, less the zeros at their end
 pub record Less (s : List ℕ) (part : Part) (field : Bytes) : Type 0 where
@@ -27,11 +29,13 @@ pub record PaddedText (s : List ℕ) (field : Bytes) (n : ℕ) : Type 0 where
   pub text : (i : ℕ) → i < n → getD s (field .position + i) 0 ≡ 0 → ⊥
   pub zeros : (i : ℕ) → n ≤ i → i < field .length → getD s (field .position + i) 0 ≡ 0
 
--- The value is handed out of strings alone that have a size (docs/DIFFERENCES.md, 57): the bytes of the data field, less the zeros at their end.
--- Of one element whose text is ended or padded by zeros these are the text's (58 and 59 say where it is not so): `PaddedText`.
-pub record SameValue (s : List ℕ) (value : OptionPart) (class size : ℕ) (field : Bytes) : Type 0 where
-  pub text : class ≡ 3 → 0 < size → (part : Part) × (value ≡ parts.Some part) × Less s part field × ((n : ℕ) → PaddedText s field n → part .length ≡ n)
-  pub other : (class ≡ 3 → 0 < size → ⊥) → value ≡ parts.None
+-- The value of strings that have a size is the bytes of the data field, less the zeros at their end: of one element whose text is ended or padded
+-- by zeros these are the text's, `PaddedText` (docs/DIFFERENCES.md, 58 and 59, say where it is not so). The value of one element in a form that has a
+-- number is that number. Nothing else has a value (57).
+pub record SameValue (s : List ℕ) (value : Value) (t : Datatype) (n : ℕ) (field : Bytes) : Type 0 where
+  pub text : class (headerOf t) ≡ 3 → 0 < headerOf t .size → (part : Part) × (value ≡ values.Text part) × Less s part field × ((k : ℕ) → PaddedText s field k → part .length ≡ k)
+  pub number : AreBytes s → n ≡ 1 → HasNumber t → (x : Number) × (value ≡ values.Number x) × SameNumber s t (field .position) x
+  pub other : (class (headerOf t) ≡ 3 → 0 < headerOf t .size → ⊥) → (n ≡ 1 → HasNumber t → ⊥) → value ≡ values.None
 
 -- The name is the bytes of the name field, less the zeros at their end: what stands before the null terminator, where that is its first zero and
 -- its last byte (docs/DIFFERENCES.md, 55).
@@ -43,7 +47,7 @@ pub record SameName (s : List ℕ) (name : Part) (field : Bytes) : Type 0 where
 pub record SameFields (s : List ℕ) (a : ours.Attribute) (name-field : Bytes) (contents : Described) (data-field : Bytes) : Type 0 where
   pub name : SameName s (a .name) name-field
   pub members : Each ScalarMembers (contents .datatype)
-  pub value : SameValue s (a .value) (class (headerOf (contents .datatype))) (headerOf (contents .datatype) .size) data-field
+  pub value : SameValue s (a .value) (contents .datatype) (elements (contents .dataspace)) data-field
 
 abbrev pub SameAttribute : List ℕ → ours.Attribute → Attribute → Type 0
 SameAttribute s a (of-version-1 x) = SameFields s a (x .name) (x .described) (x .«data»)

@@ -4,7 +4,7 @@ use mathlib.Core.Path.{_≡_, refl}
 use mathlib.Core.List.{List, [], _∷_, _++_}
 use Rattle.format.specs.Bytes.{le, textLength}
 use Rattle.format.specs.Format.{Out, found, refused, read, bind}
-use Rattle.records.specs.declared.OptionPart.the-variants as parts
+use Rattle.records.specs.declared.Value.the-variants as values
 use Rattle.records.specs.declared.Attribute as ours
 use Rattle.parser.specs.declared.State.{State}
 use Rattle.ohdr_datatype.specs.DataTypes.{knownClass, knownType, dataTypeHeader, plain, typeLayer, dataType}
@@ -28,7 +28,7 @@ theirs file = elim (read file (attributeMessage 4095 1 2) 0) [ found x q ↦ fou
 
 -- the value that is handed out, and the end
 abbrev valued : ℕ → ℕ → ours.Attribute
-valued position length = record { name = record { position = 9; length = 0 }; value = parts.Some (record { position = position; length = length }) }
+valued position length = record { name = record { position = 9; length = 0 }; value = values.Text (record { position = position; length = length }) }
 
 -- version 3, an empty name, a string of 1 byte, a dataspace of version 2 and so many bytes, and the text `vw`
 abbrev attribute3Of : ℕ → List ℕ → List ℕ

@@ -15,7 +15,7 @@ use Rattle.standard.specs.Datatypes.{datatypeHeader, datatype, no-properties, p
 use Rattle.standard.specs.Dataspaces.{not-stored, stored, storedSizes, dataspace1, dataspace2, version-1, version-2, dataspaceMessage}
 use Rattle.standard.specs.Attributes.{sizes1, sizes3, sized, described, product, Attribute, of-version-1, of-version-3, attribute1, attribute3, attributeMessage}
 use Rattle.standard_attribute.specs.Differences.{ElementsDiffer, scalar-with-sizes, null}
-use Rattle.standard_attribute.specs.TextValues.{describedOf, TextValue, ValueStands}
+use Rattle.standard_attribute.specs.TextValues.{describedOf, TextValue, TextIs, ValueStands}
 use Rattle.standard_attribute.specs.Values.{text-value}
 
 -- lengths of 2 bytes
@@ -59,7 +59,7 @@ met1 =
     simple : ElementsDiffer (describedOf text1 .dataspace) → ⊥
     simple = elim [ ]
 
-pub a-text-of-version-1 : ValueStands file1 state 0 42 (record { position = 8; length = 9 }) (record { position = 40; length = 2 })
+pub a-text-of-version-1 : ValueStands file1 state 0 42 (record { position = 8; length = 9 }) (TextIs file1 (describedOf text1) (record { position = 40; length = 2 }))
 unfolding read bind le many raw byVersion marked datatypeHeader properties datatypeOf datatypeMessage storedSizes dataspace1 dataspace2 dataspaceMessage sizes1 sizes3 sized described product attribute1 attribute3 attributeMessage
 a-text-of-version-1 = text-value file1 state 4095 1 0 42 text1 (sound file1 (attributeMessage 4095 1 2) 0 42 text1 refl) met1
 
@@ -100,6 +100,6 @@ met3 =
     simple (scalar-with-sizes e f) = omega arith
     simple (null e) = omega arith
 
-pub a-text-of-version-3 : ValueStands file3 state 0 31 (record { position = 9; length = 2 }) (record { position = 27; length = 4 })
+pub a-text-of-version-3 : ValueStands file3 state 0 31 (record { position = 9; length = 2 }) (TextIs file3 (describedOf text3) (record { position = 27; length = 4 }))
 unfolding read bind le many raw byVersion marked datatypeHeader properties datatypeOf datatypeMessage storedSizes dataspace1 dataspace2 dataspaceMessage sizes1 sizes3 sized described product attribute1 attribute3 attributeMessage
 a-text-of-version-3 = text-value file3 state 4095 1 0 31 text3 (sound file3 (attributeMessage 4095 1 2) 0 31 text3 refl) met3

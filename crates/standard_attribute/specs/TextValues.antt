@@ -5,15 +5,20 @@ use mathlib.Core.Path.{_≡_}
 use mathlib.Core.Logic.{_⊎_}
 use mathlib.Core.List.{List}
 use Rattle.format.specs.Format.{Stands}
-use Rattle.records.specs.declared.OptionPart.the-variants as parts
 use Rattle.records.specs.declared.Part.{Part}
+use Rattle.records.specs.declared.Number.{Number}
+use Rattle.records.specs.declared.Value.{Value}
+use Rattle.records.specs.declared.Value.the-variants as values
 use Rattle.parser.specs.declared.State.{State}
 use Rattle.ohdr_attribute.specs.Attributes.{attribute}
 use Rattle.standard.specs.Fields.{Bytes}
 use Rattle.standard.specs.Tie.{Every}
 use Rattle.standard.specs.Datatypes.{class, headerOf}
 use Rattle.standard.specs.Dataspaces.{Stored, not-stored, stored, Dataspace, version-1, version-2}
-use Rattle.standard.specs.Attributes.{Described, elementSize, Attribute, of-version-1, of-version-3}
+use Rattle.standard.specs.Attributes.{Described, elements, elementSize, Attribute, of-version-1, of-version-3}
+use Rattle.standard_datatype.specs.ReadTypes.{ReadFloat}
+use Rattle.standard_datatype.specs.Same.{propertiesOf}
+use Rattle.standard_attribute.specs.SameNumbers.{HasNumber, SameNumber}
 use Rattle.standard_attribute.specs.Differences.{ElementsDiffer}
 use Rattle.standard_attribute.specs.Same.{Less, SameName}
 
@@ -80,18 +85,43 @@ pub record TextDescribed (w : ℕ) (x : Described) : Type 0 where
   -- 26 and 27: no scalar dataspace with dimensions, and no null dataspace
   pub elements : ElementsDiffer (x .dataspace) → ⊥
 
--- An attribute whose data are handed out. That it is of version 1 or 3 (48), without a shared datatype or dataspace (50), is in the standard's
--- format. Entry 56, a datatype, dataspace or data that have no reading, is no condition: it is what these exclude.
-pub record TextValue (w : ℕ) (x : Attribute) : Type 0 where
+-- Datatype and dataspace of a number that is read, of which the same is in the standard's format
+pub record NumberDescribed (w : ℕ) (x : Described) : Type 0 where
+  -- 57: a form that has a number, and one element
+  pub number : HasNumber (x .datatype)
+  pub one : elements (x .dataspace) ≡ 1
+  -- 31: two float formats
+  pub float : ReadFloat (propertiesOf (x .datatype))
+  -- 19, 20, 21 and 24
+  pub dataspace : ReadSpace w (x .dataspace)
+  -- 26 and 27
+  pub elements-same : ElementsDiffer (x .dataspace) → ⊥
+
+-- An attribute whose data are handed out, described as D says. That it is of version 1 or 3 (48), without a shared datatype or dataspace (50), is in
+-- the standard's format. Entry 56, a datatype, dataspace or data that have no reading, is no condition: it is what these exclude.
+pub record ReadAttribute (D : Described → Type 0) (x : Attribute) : Type 0 where
   -- 52: names up to 4,096 bytes
   pub name-size : nameSizeOf x ≤ 4096
-  pub described : TextDescribed w (describedOf x)
+  pub described : D (describedOf x)
 
--- From p to q stands an attribute with a value. Its name is the name field, and its value the data field, each less the zeros at its end. No other
--- attribute stands at p, since a format stands in one way (`unique`: format, Laws).
-pub record ValueStands (s : List ℕ) (state : State) (p q : ℕ) (name-field data-field : Bytes) : Type 0 where
+abbrev pub TextValue : ℕ → Attribute → Type 0
+TextValue w x = ReadAttribute (TextDescribed w) x
+
+abbrev pub NumberValue : ℕ → Attribute → Type 0
+NumberValue w x = ReadAttribute (NumberDescribed w) x
+
+-- a value is the data field, less the zeros at its end, or the number that the data field is by the table of its class
+abbrev pub TextIs : List ℕ → Described → Bytes → Value → Type 0
+TextIs s x field v = (part : Part) × (v ≡ values.Text part) × Less s part field
+
+abbrev pub NumberIs : List ℕ → Described → Bytes → Value → Type 0
+NumberIs s x field v = (n : Number) × (v ≡ values.Number n) × SameNumber s (x .datatype) (field .position) n
+
+-- From p to q stands an attribute with such a value. Its name is the name field, less the zeros at its end. No other attribute stands at p, since a
+-- format stands in one way (`unique`: format, Laws).
+pub record ValueStands (s : List ℕ) (state : State) (p q : ℕ) (name-field : Bytes) (Is : Value → Type 0) : Type 0 where
   pub name : Part
-  pub value : Part
-  pub stands : Stands s (attribute state) p q (record { name = name; value = parts.Some value })
+  pub value : Value
+  pub stands : Stands s (attribute state) p q (record { name = name; value = value })
   pub same-name : SameName s name name-field
-  pub same-value : Less s value data-field
+  pub same-value : Is value

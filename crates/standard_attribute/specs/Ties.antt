@@ -13,7 +13,7 @@ use Rattle.format.specs.Bits.{bit}
 use Rattle.format.specs.Bytes.{le, Trimmed, toMultipleOf8}
 use Rattle.format.specs.Format.{Format, done, number, skip, text, here, Stands, bind, check}
 use Rattle.format.specs.Standing.{stands-bind, stands-check, bind-stands}
-use Rattle.records.specs.declared.OptionPart.{OptionPart}
+use Rattle.records.specs.declared.Value.{Value}
 use Rattle.records.specs.declared.Part.{Part}
 use Rattle.records.specs.declared.Attribute as ours
 use Rattle.parser.specs.declared.State.{State}
@@ -151,7 +151,7 @@ module _ (s : List ℕ) (state : State) (longest : ℕ) (wide : 4095 ≤ longest
   width = state .«size_of_lengths»
 
   -- datatype, dataspace and data that stand, or that have no reading
-  abbrev Contents : (version : ℕ) (pad : ℕ → ℕ) → ((n : ℕ) → padding version n ≡ pad n) → ℕ → ℕ → ℕ → ℕ → OptionPart → Type 0
+  abbrev Contents : (version : ℕ) (pad : ℕ → ℕ) → ((n : ℕ) → padding version n ≡ pad n) → ℕ → ℕ → ℕ → ℕ → Value → Type 0
   Contents version pad same-pad a b p q v =
       ContentsDiffer s state longest version pad a b p ⊎ Held s state longest wide version pad same-pad a b p q v
 

@@ -1,41 +1,49 @@
--- Wherever an attribute message of the standard stands with a text, and no listed difference applies, the attribute that is read stands over the
--- same bytes, with the text as its value. Assumes nothing.
+-- Wherever an attribute message of the standard stands with a text or a number, and no listed difference applies, the attribute that is read stands
+-- over the same bytes, with the text or the number as its value. Assumes nothing.
 use Prim.Native.Nat.{ℕ, _+_, _-_, _*_, _≤_, _<_}
-use mathlib.Core.Path.{_≡_, refl, sym, ap, _∙_}
+use mathlib.Core.Path.{_≡_, refl, sym, ap, _∙_, subst}
 use mathlib.Core.Logic.{inl}
 use mathlib.Core.Bool.{Bool, true, false, not, _||_}
 use mathlib.Core.List.{List}
 use native.Mathlib.Omega.{arith}
 use lib.Dec.{eqb}
 use lib.ListN.{length}
-use borrow.Author.Tests.{eqb-true, lt-ltb, le-leb}
+use borrow.Author.Tests.{eqb-true, ne-eqb, lt-ltb, le-leb}
 use Rattle.format.specs.Bits.{bit}
-use Rattle.format.specs.Bytes.{le, Trimmed, textLength, toMultipleOf8}
+use Rattle.format.specs.Bytes.{le, textLength, toMultipleOf8}
 use Rattle.format.specs.BytesLaws.{trimmed-found}
 use Rattle.format.specs.Format.{Format, done, refuse, skip, here, bind, pick, Stands}
 use Rattle.format.specs.Laws.{unique}
 use Rattle.format.specs.Standing.{stands-bind, stands-check, bind-stands}
-use Rattle.records.specs.declared.OptionPart.{OptionPart}
-use Rattle.records.specs.declared.OptionPart.the-variants as parts
 use Rattle.records.specs.declared.Part.{Part}
+use Rattle.records.specs.declared.Value.{Value}
+use Rattle.records.specs.declared.Value.the-variants as values
 use Rattle.records.specs.declared.Attribute as ours
 use Rattle.records.specs.declared.DataType.{DataType}
 use Rattle.records.specs.declared.DataSpace.{DataSpace}
 use Rattle.parser.specs.declared.State.{State}
+use Rattle.number.specs.declared.NumberForm.{NumberForm}
+use Rattle.number.specs.declared.OptionForm.the-variants as options
+use Rattle.number.specs.Forms.{numberForm}
+use Rattle.number.specs.Values.{numberOf, numberValue}
+use Rattle.number.specs.Kept.{stored, stands-number}
 use Rattle.ohdr_datatype.specs.DataTypes.{classOf, dataType, typeLevels}
+use Rattle.standard_datatype.specs.Same.{SameHeader}
 use Rattle.ohdr_dataspace.specs.DataSpaces as spaces
 use Rattle.ohdr_attribute.specs.Attributes.{padding, textValue, value, spaceValue, typeSpaceValue, encoding, attributeFields, attribute}
 use Rattle.ohdr_attribute.specs.Without.{with-or-without}
 use Rattle.standard.specs.Fields.{Bytes, only, raw}
 use Rattle.standard.specs.Versions.{byVersion, marked}
-use Rattle.standard.specs.Datatypes.{datatypeMessage}
+use Rattle.standard.specs.Datatypes.{headerOf, datatypeMessage}
 use Rattle.standard.specs.Dataspaces.{dataspaceMessage}
 use Rattle.standard.specs.Attributes.{Sizes1, sizes1, Sizes3, sizes3, sized, Described, described, elements, elementSize, rawSize, Attribute1, attribute1, Attribute3, attribute3, Attribute, of-version-1, of-version-3, attributeMessage}
-use Rattle.standard_attribute.specs.Same.{Less}
-use Rattle.standard_attribute.specs.TextValues.{TextDescribed, TextValue, ValueStands, nameOf, dataOf}
+use Rattle.standard_attribute.specs.TextValues.{ReadSpace, TextDescribed, TextValue, NumberDescribed, NumberValue, TextIs, NumberIs, ValueStands, nameSizeOf, describedOf, nameOf, dataOf}
 use Rattle.standard_attribute.specs.Ties.{ourName, same-name}
 use Rattle.standard_attribute.specs.ReadSpaces.{space-read}
-use Rattle.standard_attribute.specs.ReadStrings.{string-read}
+use Rattle.standard_attribute.specs.ReadElements.{elementType, string-read, number-read}
+use Rattle.standard_attribute.specs.SameNumbers.{AreBytes}
+use Rattle.standard_attribute.specs.NumberForms.{form-said, number-formed, number-same, number-class, has-class}
+use Rattle.standard_attribute.specs.Differences.{ElementsDiffer}
 
 -- what has the size that is written for it stands, and ends there
 sized-ends : {A : Type 0} (s : List ℕ) (n : ℕ) (F : Format A) (p q : ℕ) (a : A) → Stands s (sized n F) p q a → Stands s F p q a × (q ≡ p + n)
@@ -50,58 +58,49 @@ raw-bytes : (x y : Described) (n : ℕ) → x ≡ y → n ≡ elements (x .datas
 raw-bytes x y n e d = rw (d, e)
 
 module _ (s : List ℕ) (state : State) where
-  -- a text from p on, as a value
-  abbrev Text : Format OptionPart → ℕ → ℕ → ℕ → ℕ → Type 0
-  Text F p q u n = (l : ℕ) × Trimmed s u n l × Stands s F p q (parts.Some (record { position = u; length = l }))
+  -- a value from p to q, of which something is so
+  abbrev Valued : Format Value → ℕ → ℕ → (Value → Type 0) → Type 0
+  Valued F p q Is = (v : Value) × Is v × Stands s F p q v
 
-  text-read : (t : DataType) (n m p : ℕ) → classOf (t .«class_and_version») ≡ 3 → 0 < t .size → n * t .size ≡ m → p + m ≤ length s → Text (value t n) p (p + m) p m
-  unfolding value textValue
-  text-read t n m p c h e i =
-      let l = textLength s p m in
-      let d = trimmed-found s p m i in
-      (l, d, rw (c, lt-ltb 0 (t .size) h, e) (l, d, (refl, refl)))
-
-  -- the dataspace and its padding, and the text
-  space-text : (version k p m u n : ℕ) (t : DataType) (d : DataSpace) → Stands s (spaces.dataSpace state) p m d → padding version (m - p) ≡ k → m + k ≡ u → u ≤ length s
-      → classOf (t .«class_and_version») ≡ 3 → 0 < t .size → spaces.elements d * t .size ≡ n → u + n ≤ length s → Text (spaceValue version state t) p (u + n) u n
+  -- the dataspace and its padding, and the value
+  space-value : (version k p m u q : ℕ) (t : DataType) (d : DataSpace) (Is : Value → Type 0) → Stands s (spaces.dataSpace state) p m d → padding version (m - p) ≡ k → m + k ≡ u → u ≤ length s
+      → Valued (value t (spaces.elements d)) u q Is → Valued (spaceValue version state t) p q Is
   unfolding spaceValue
-  space-text version k p m u n t d h f g j c i e r =
-      let x = text-read t (spaces.elements d) n u c i e r in (
-        x .0,
-        x .1,
-        bind-stands s (spaces.dataSpace state) (λ d. here (λ upto. skip (padding version (upto - p)) (value t (spaces.elements d)))) p m (u + n) d _ h (rw (f, g) (j, x .2)),
-      )
+  space-value version k p m u q t d Is h f g j x =
+      (x .0, x .1, bind-stands s (spaces.dataSpace state) (λ d. here (λ upto. skip (padding version (upto - p)) (value t (spaces.elements d)))) p m q d _ h (rw (f, g) (j, x .2)))
 
   -- the datatype and its padding, and what follows it
-  type-text : (version k p m q u n : ℕ) (t : DataType) → Stands s (dataType typeLevels) p m t → padding version (m - p) ≡ k → m + k ≤ length s → Text (spaceValue version state t) (m + k) q u n
-      → Text (typeSpaceValue version state) p q u n
+  type-value : (version k p m q : ℕ) (t : DataType) (Is : Value → Type 0) → Stands s (dataType typeLevels) p m t → padding version (m - p) ≡ k → m + k ≤ length s
+      → Valued (spaceValue version state t) (m + k) q Is → Valued (typeSpaceValue version state) p q Is
   unfolding typeSpaceValue
-  type-text version k p m q u n t h f j x =
+  type-value version k p m q t Is h f j x =
       (x .0, x .1, bind-stands s (dataType typeLevels) (λ t. here (λ upto. skip (padding version (upto - p)) (spaceValue version state t))) p m q t _ h (rw f (j, x .2)))
 
-  -- with the two bounds of the standard's format, the version and its padding, and the two sizes that are written
-  contents-text : (longest levels version : ℕ) (pad : ℕ → ℕ) → ((n : ℕ) → padding version n ≡ pad n) → (datatype-size dataspace-size p u : ℕ) (x : Described)
-      → Stands s (described longest levels (state .«size_of_lengths») pad datatype-size dataspace-size) p u x → TextDescribed (state .«size_of_lengths») x → u + rawSize x ≤ length s
-      → Text (typeSpaceValue version state) p (u + rawSize x) u (rawSize x)
+  -- With the two bounds of the standard's format, the version and its padding, and the two sizes that are written: where the datatype is read as one of
+  -- which Q holds, and its elements have a value.
+  contents-value : (longest levels version : ℕ) (pad : ℕ → ℕ) → ((n : ℕ) → padding version n ≡ pad n) → (datatype-size dataspace-size p u q : ℕ) (x : Described) (Q : DataType → Type 0) (Is : Value → Type 0)
+      → Stands s (described longest levels (state .«size_of_lengths») pad datatype-size dataspace-size) p u x → ReadSpace (state .«size_of_lengths») (x .dataspace) → (ElementsDiffer (x .dataspace) → ⊥)
+      → ((m : ℕ) → Stands s (datatypeMessage longest levels) p m (x .datatype) → (t : DataType) × Q t × Stands s (dataType typeLevels) p m t)
+      → ((t : DataType) (n : ℕ) → Q t → n ≡ elements (x .dataspace) → Valued (value t n) u q Is) → Valued (typeSpaceValue version state) p q Is
   unfolding described
-  contents-text longest levels version pad same-pad datatype-size dataspace-size p u x h r l =
+  contents-value longest levels version pad same-pad datatype-size dataspace-size p u q x Q Is h r o types values =
       let theTypes = datatypeMessage longest levels in
       let theSpaces = dataspaceMessage (state .«size_of_lengths») in
       let a = stands-bind s (sized datatype-size theTypes) _ p u x h in
       let from = a .0 + pad datatype-size in
       let b = stands-bind s (sized dataspace-size theSpaces) _ from u x (a .3 .1) in
       let e = b .3 .1 .1 in
-      let c = rw (← e) at r in
       let t = sized-ends s datatype-size theTypes p (a .0) (a .1) (a .2) in
       let d = sized-ends s dataspace-size theSpaces from (b .0) (b .1) (b .2) in
-      let y = space-read s state from (b .0) (b .1) (d .0) (c .dataspace) (c .elements) in
-      type-text version (pad datatype-size) p (a .0) (u + rawSize x) u (rawSize x) _
-      (string-read s longest levels 31 p (a .0) (a .1) (t .0) (c .string) (c .small-size))
+      let f = sym e in
+      let y = space-read s state from (b .0) (b .1) (d .0) (subst (λ (z : Described). ReadSpace (state .«size_of_lengths») (z .dataspace)) f r) (subst (λ (z : Described). ElementsDiffer (z .dataspace) → ⊥) f o) in
+      let z = types (a .0) (subst (λ (z : Described). Stands s theTypes p (a .0) (z .datatype)) e (t .0)) in
+      type-value version (pad datatype-size) p (a .0) q (z .0) Is (z .2)
       (ap (padding version) (omega (arith, t .1)) ∙ same-pad datatype-size)
       (a .3 .0)
-      (space-text version (pad dataspace-size) from (b .0) u (rawSize x) _ (y .0) (y .1)
+      (space-value version (pad dataspace-size) from (b .0) u q (z .0) (y .0) Is (y .1)
       (ap (padding version) (omega (arith, d .1)) ∙ same-pad dataspace-size)
-      (b .3 .1 .0) (omega arith) (c .string) (c .some-size) (raw-bytes _ x (spaces.elements (y .0)) e (y .2)) l)
+      (b .3 .1 .0) (omega arith) (values (z .0) (spaces.elements (y .0)) (z .1) (y .2 ∙ ap (λ (z : Described). elements (z .dataspace)) e)))
 
   -- the fields before the name, in version 1 and in version 3
   fields1-read : (p q : ℕ) (x : Sizes1) → Stands s sizes1 p q x → x .name-size ≤ 4096 → Stands s attributeFields p q (record { version = 1; «name_size» = x .name-size })
@@ -145,26 +144,23 @@ module _ (s : List ℕ) (state : State) where
       }
 
   -- name and padding, contents and data of an attribute with these fields
-  attribute-read : (longest levels version : ℕ) (pad : ℕ → ℕ) → ((n : ℕ) → padding version n ≡ pad n) → (datatype-size dataspace-size n k p m q : ℕ) (name : Bytes) (x : Described) (data-field : Bytes)
+  attribute-read : (version n k p m q : ℕ) (D : Format Described) (name : Bytes) (x : Described) (data-field : Bytes) (Is : Value → Type 0)
       → Stands s attributeFields p m (record { version = version; «name_size» = n }) → padding version n ≡ k
-      → Laid n k (described longest levels (state .«size_of_lengths») pad datatype-size dataspace-size) m q name x data-field → TextDescribed (state .«size_of_lengths») x
-      → ValueStands s state p q name data-field
+      → (f : Laid n k D m q name x data-field) → Valued (typeSpaceValue version state) (m + n + k) (f .upto + rawSize x) Is → ValueStands s state p q name Is
   unfolding attribute
-  attribute-read longest levels version pad same-pad datatype-size dataspace-size n k p m q name x data-field h e f r =
-      let y = contents-text longest levels version pad same-pad datatype-size dataspace-size (m + n + k) (f .upto) x (f .contents) r (f .data-room) in
+  attribute-read version n k p m q D name x data-field Is h e f y =
       let l = textLength s m n in
       let t = trimmed-found s m n (omega (arith, f .room)) in
       let part : Part = record { position = m; length = l } in
-      let v : Part = record { position = f .upto; length = y .0 } in
-      let a : ours.Attribute = record { name = part; value = parts.Some v } in
+      let a : ours.Attribute = record { name = part; value = y .0 } in
       let w = with-or-without s version state part (m + n + k) (f .upto + rawSize x) a .1 (refl, inl (record { stands = y .2 })) in
       let z : Stands s (attribute state) p (f .upto + rawSize x) a = bind-stands s attributeFields (ourName state) p m (f .upto + rawSize x) (record { version = version; «name_size» = n }) a h (l, t, rw e (f .room, w)) in
       record {
         name = part;
-        value = v;
+        value = y .0;
         stands = rw (f .end) at z;
         same-name = rw (← f .name-is) (same-name s m n l part t refl);
-        same-value = rw (← f .data-is) (record { position = refl; length = y .1 });
+        same-value = y .1;
       }
 
   -- the standard's format, with its two bounds
@@ -205,43 +201,117 @@ module _ (s : List ℕ) (state : State) where
         more : (D : Format Described) (from upto : ℕ) (y : Described) → Stands s D from upto y → Stands s D (from + 0) upto y
         more D from upto y i = let e : from + 0 ≡ from = omega arith in rw e i
 
-    by-version : (p q : ℕ) (x : Attribute) (a b : Bool)
-        → Stands s (pick a (marked of-version-1 (attribute1 longest levels (state .«size_of_lengths»))) (pick b (marked of-version-3 (attribute3 longest levels (state .«size_of_lengths»))) (refuse 0))) p q x
-        → TextValue (state .«size_of_lengths») x → ValueStands s state p q (nameOf x) (dataOf x)
-    unfolding marked
-    by-version p q x true b h r =
-        let c = stands-bind s (attribute1 longest levels (state .«size_of_lengths»)) (λ y. done (of-version-1 y)) p q x h in
-        rw (← c .3 .1) (first (c .1) (rw (c .3 .0) at (c .2)) (rw (← c .3 .1) at r))
+    -- Is holds of the value, with the data field, of whatever is described as asked
+    abbrev ValuedOf : (Described → Type 0) → (Described → Bytes → Value → Type 0) → Type 0
+    ValuedOf Asked Is = (version : ℕ) (pad : ℕ → ℕ) → ((n : ℕ) → padding version n ≡ pad n) → (datatype-size dataspace-size p u : ℕ) (x : Described) → Stands s (contents pad datatype-size dataspace-size) p u x → Asked x
+        → u + rawSize x ≤ length s → Valued (typeSpaceValue version state) p (u + rawSize x) (Is x (record { position = u; length = rawSize x }))
+
+    module _ (Asked : Described → Type 0) (Is : Described → Bytes → Value → Type 0) (valued : ValuedOf Asked Is) where
+      data-valued : (version : ℕ) (pad : ℕ → ℕ) → ((n : ℕ) → padding version n ≡ pad n) → (datatype-size dataspace-size n k m q : ℕ) (name : Bytes) (x : Described) (data-field : Bytes)
+          → (f : Laid n k (contents pad datatype-size dataspace-size) m q name x data-field) → Asked x → Valued (typeSpaceValue version state) (m + n + k) (f .upto + rawSize x) (Is x data-field)
+      data-valued version pad same-pad a b n k m q name x data-field f r =
+          subst (λ (field : Bytes). Valued (typeSpaceValue version state) (m + n + k) (f .upto + rawSize x) (Is x field)) (f .data-is) (valued version pad same-pad a b (m + n + k) (f .upto) x (f .contents) r (f .data-room))
+
+      first : (p q : ℕ) (y : Attribute1) → Stands s (attribute1 longest levels (state .«size_of_lengths»)) p q y → y .sizes .name-size ≤ 4096 → Asked (y .described) → ValueStands s state p q (y .name) (Is (y .described) (y .«data»))
+      first p q y h l r =
+          let z = y .sizes in
+          let i = laid1 p q y h in
+          attribute-read 1 (z .name-size) (toMultipleOf8 (z .name-size)) p (i .0) q _ (y .name) (y .described) (y .«data») (Is (y .described) (y .«data»)) (fields1-read p (i .0) z (i .1) l) refl (i .2)
+          (data-valued 1 toMultipleOf8 (λ _. refl) (z .datatype-size) (z .dataspace-size) (z .name-size) (toMultipleOf8 (z .name-size)) (i .0) q (y .name) (y .described) (y .«data») (i .2) r)
+
+      third : (p q : ℕ) (y : Attribute3) → Stands s (attribute3 longest levels (state .«size_of_lengths»)) p q y → y .sizes .name-size ≤ 4096 → Asked (y .described) → ValueStands s state p q (y .name) (Is (y .described) (y .«data»))
+      third p q y h l r =
+          let z = y .sizes in
+          let i = laid3 p q y h in
+          attribute-read 3 (z .name-size) 0 p (i .0) q _ (y .name) (y .described) (y .«data») (Is (y .described) (y .«data»)) (fields3-read p (i .0) z (i .1) l) refl (i .2)
+          (data-valued 3 (λ _. 0) (λ _. refl) (z .datatype-size) (z .dataspace-size) (z .name-size) 0 (i .0) q (y .name) (y .described) (y .«data») (i .2) r)
+
+      by-version : (p q : ℕ) (x : Attribute) (a b : Bool)
+          → Stands s (pick a (marked of-version-1 (attribute1 longest levels (state .«size_of_lengths»))) (pick b (marked of-version-3 (attribute3 longest levels (state .«size_of_lengths»))) (refuse 0))) p q x
+          → nameSizeOf x ≤ 4096 → Asked (describedOf x) → ValueStands s state p q (nameOf x) (Is (describedOf x) (dataOf x))
+      unfolding marked
+      by-version p q x true b h l r =
+          let c = stands-bind s (attribute1 longest levels (state .«size_of_lengths»)) (λ y. done (of-version-1 y)) p q x h in
+          rw (← c .3 .1) (first p q (c .1) (rw (c .3 .0) at (c .2)) (rw (← c .3 .1) at l) (rw (← c .3 .1) at r))
+      by-version p q x false true h l r =
+          let c = stands-bind s (attribute3 longest levels (state .«size_of_lengths»)) (λ y. done (of-version-3 y)) p q x h in
+          rw (← c .3 .1) (third p q (c .1) (rw (c .3 .0) at (c .2)) (rw (← c .3 .1) at l) (rw (← c .3 .1) at r))
+      by-version p q x false false h l r = absurd h
+
+      value-stands : (p q : ℕ) (x : Attribute) → Stands s (attributeMessage longest levels (state .«size_of_lengths»)) p q x → nameSizeOf x ≤ 4096 → Asked (describedOf x)
+          → ValueStands s state p q (nameOf x) (Is (describedOf x) (dataOf x))
+      unfolding attributeMessage byVersion
+      value-stands p q x h l r = by-version p q x (eqb (h .1) 1) (eqb (h .1) 3) (h .3) l r
+
+    -- a text of all the elements
+    contents-text : ValuedOf (TextDescribed (state .«size_of_lengths»)) (TextIs s)
+    unfolding value textValue
+    contents-text version pad same-pad datatype-size dataspace-size p u x h r l =
+        contents-value longest levels version pad same-pad datatype-size dataspace-size p u (u + rawSize x) x (λ t. t ≡ elementType s longest (x .datatype)) (TextIs s x field) h (r .dataspace) (r .elements)
+        (λ m i. (elementType s longest (x .datatype), refl, string-read s longest levels 31 p m (x .datatype) i (r .string) (r .small-size)))
+        (λ t n c e. rw c (text (elementType s longest (x .datatype)) n (r .string) (r .some-size) (rw e)))
       where
-        first : (y : Attribute1) → Stands s (attribute1 longest levels (state .«size_of_lengths»)) p q y → TextValue (state .«size_of_lengths») (of-version-1 y) → ValueStands s state p q (y .name) (y .«data»)
-        first y h r =
-            let z = y .sizes in
-            let i = laid1 p q y h in
-            attribute-read longest levels 1 toMultipleOf8 (λ _. refl) (z .datatype-size) (z .dataspace-size) (z .name-size) (toMultipleOf8 (z .name-size)) p (i .0) q (y .name) (y .described) (y .«data»)
-            (fields1-read p (i .0) z (i .1) (r .name-size)) refl (i .2) (r .described)
-    by-version p q x false true h r =
-        let c = stands-bind s (attribute3 longest levels (state .«size_of_lengths»)) (λ y. done (of-version-3 y)) p q x h in
-        rw (← c .3 .1) (third (c .1) (rw (c .3 .0) at (c .2)) (rw (← c .3 .1) at r))
+        field : Bytes
+        field = record { position = u; length = rawSize x }
+
+        text : (t : DataType) (n : ℕ) → classOf (t .«class_and_version») ≡ 3 → 0 < t .size → n * t .size ≡ rawSize x → Valued (value t n) u (u + rawSize x) (TextIs s x field)
+        text t n c k e =
+            let a = textLength s u (rawSize x) in
+            let d = trimmed-found s u (rawSize x) l in
+            let part : Part = record { position = u; length = a } in
+            (values.Text part, (part, refl, record { position = refl; length = d }), rw (c, lt-ltb 0 (t .size) k, e) (a, d, (refl, refl)))
+
+    -- the number of one element
+    number-here : AreBytes s → (t : DataType) (form : NumberForm) (n u : ℕ) → classOf (t .«class_and_version») ≤ 1 → n ≡ 1 → numberForm t ≡ options.Some form → u + t .size ≤ length s
+        → Stands s (value t n) u (u + t .size) (values.Number (numberOf form (t .size) (stored s (t .«class_bit_field») u (t .size))))
+    unfolding value
+    number-here bytes t form n u c e f l =
+        let k = classOf (t .«class_and_version») in
+        let v = numberOf form (t .size) (stored s (t .«class_bit_field») u (t .size)) in
+        rw (ne-eqb k 3 (λ d. omega arith), ne-eqb k 9 (λ d. omega arith), e, f)
+        (bind-stands s (numberValue form (t .«class_bit_field») (t .size)) (λ x. done (values.Number x)) u (u + t .size) (u + t .size) v (values.Number v) (stands-number s bytes form (t .«class_bit_field») (t .size) u l) (refl, refl))
+
+    contents-number : AreBytes s → ValuedOf (NumberDescribed (state .«size_of_lengths»)) (NumberIs s)
+    unfolding value
+    contents-number bytes version pad same-pad datatype-size dataspace-size p u x h r l =
+        contents-value longest levels version pad same-pad datatype-size dataspace-size p u (u + rawSize x) x (λ t. t ≡ elementType s longest (x .datatype)) (NumberIs s x field) h (r .dataspace) (r .elements-same)
+        (λ m i. (elementType s longest (x .datatype), refl, number-read s longest levels 31 p m (x .datatype) i (r .number) (r .float)))
+        (λ t n c e. rw c (number n (e ∙ r .one)))
       where
-        third : (y : Attribute3) → Stands s (attribute3 longest levels (state .«size_of_lengths»)) p q y → TextValue (state .«size_of_lengths») (of-version-3 y) → ValueStands s state p q (y .name) (y .«data»)
-        third y h r =
-            let z = y .sizes in
-            let i = laid3 p q y h in
-            attribute-read longest levels 3 (λ _. 0) (λ _. refl) (z .datatype-size) (z .dataspace-size) (z .name-size) 0 p (i .0) q (y .name) (y .described) (y .«data»)
-            (fields3-read p (i .0) z (i .1) (r .name-size)) refl (i .2) (r .described)
-    by-version p q x false false h r = absurd h
+        field : Bytes
+        field = record { position = u; length = rawSize x }
+
+        t : DataType
+        t = elementType s longest (x .datatype)
+
+        same-header : SameHeader t (headerOf (x .datatype))
+        same-header = record { class-and-version = refl; class-bit-field = refl; size = refl; list-size = refl }
+
+        number : (n : ℕ) → n ≡ 1 → Valued (value t n) u (u + rawSize x) (NumberIs s x field)
+        number n e =
+            let f = number-formed t (x .datatype) same-header refl (r .number) in
+            let w = form-said t (x .datatype) (f .0) same-header refl (has-class (x .datatype) (r .number) (r .float)) (f .1) in
+            let v = numberOf (f .0) (t .size) (stored s (t .«class_bit_field») u (t .size)) in
+            let z : t .size ≡ rawSize x = sym (rw (r .one) (omega arith)) in
+            let i = number-here bytes t (f .0) n u (number-class (x .datatype) (r .number)) e (f .1) (rw z l) in
+            (values.Number v, (v, refl, number-same s bytes (f .0) (x .datatype) u w), subst (λ (k : ℕ). Stands s (value t n) u (u + k) (values.Number v)) z i)
 
 -- Where the standard's attribute message stands with a text, and no listed difference applies, the attribute that is read stands over the same
 -- bytes, and its value is the data field, less the zeros at its end. The two bounds of the standard's datatype format play no part.
 pub text-value : (s : List ℕ) (state : State) (longest levels p q : ℕ) (x : Attribute) → Stands s (attributeMessage longest levels (state .«size_of_lengths»)) p q x
-    → TextValue (state .«size_of_lengths») x → ValueStands s state p q (nameOf x) (dataOf x)
-unfolding attributeMessage byVersion
-text-value s state longest levels p q x h r = by-version s state longest levels p q x (eqb (h .1) 1) (eqb (h .1) 3) (h .3) r
+    → TextValue (state .«size_of_lengths») x → ValueStands s state p q (nameOf x) (TextIs s (describedOf x) (dataOf x))
+text-value s state longest levels p q x h r =
+    value-stands s state longest levels (TextDescribed (state .«size_of_lengths»)) (TextIs s) (contents-text s state longest levels) p q x h (r .name-size) (r .described)
+
+-- Where it stands with a number, its value is the number that the data field is by the table of its class.
+pub number-value : (s : List ℕ) (state : State) → AreBytes s → (longest levels p q : ℕ) (x : Attribute) → Stands s (attributeMessage longest levels (state .«size_of_lengths»)) p q x
+    → NumberValue (state .«size_of_lengths») x → ValueStands s state p q (nameOf x) (NumberIs s (describedOf x) (dataOf x))
+number-value s state bytes longest levels p q x h r =
+    value-stands s state longest levels (NumberDescribed (state .«size_of_lengths»)) (NumberIs s) (contents-number s state longest levels bytes) p q x h (r .name-size) (r .described)
 
 -- So what is read there has that value, and ends where the standard's message ends.
-pub value-is-read : (s : List ℕ) (state : State) (longest levels p q m : ℕ) (x : Attribute) (a : ours.Attribute) → Stands s (attributeMessage longest levels (state .«size_of_lengths»)) p q x
-    → TextValue (state .«size_of_lengths») x → Stands s (attribute state) p m a → (m ≡ q) × ((value : Part) × (a .value ≡ parts.Some value) × Less s value (dataOf x))
-value-is-read s state longest levels p q m x a h r i =
-    let v = text-value s state longest levels p q x h r in
-    let e = unique s (attribute state) p m q a (record { name = v .name; value = parts.Some (v .value) }) i (v .stands) in
-    (e .0, (v .value, ap (λ (b : ours.Attribute). b .value) (e .1), v .same-value))
+pub value-is-read : (s : List ℕ) (state : State) (p q m : ℕ) (name-field : Bytes) (Is : Value → Type 0) (a : ours.Attribute) → ValueStands s state p q name-field Is → Stands s (attribute state) p m a
+    → (m ≡ q) × Is (a .value)
+value-is-read s state p q m name-field Is a v i =
+    let e = unique s (attribute state) p m q a (record { name = v .name; value = v .value }) i (v .stands) in
+    (e .0, subst Is (ap (λ (b : ours.Attribute). b .value) (sym (e .1))) (v .same-value))

@@ -107,10 +107,10 @@ module _ (s : List ℕ) (longest : ℕ) where
   TypeRead U p q t = (r : DataType) × Stands s U p q r × SameHeader r (headerOf t) × (r .«data_fmt» ≡ formatOf t)
 
   -- properties stand from p to q, with the format of the standard's properties x
-  abbrev PropertiesRead : Format OptionDataFormat → ℕ → ℕ → Properties → Type 0
+  abbrev pub PropertiesRead : Format OptionDataFormat → ℕ → ℕ → Properties → Type 0
   PropertiesRead F p q x = Stands s F p q (formatIn x)
 
-  fixed-read : (p q : ℕ) (x : Properties) → Stands s (bind fixedPoint (λ f. done (fixed-point f))) p q x → PropertiesRead fixedProperties p q x
+  pub fixed-read : (p q : ℕ) (x : Properties) → Stands s (bind fixedPoint (λ f. done (fixed-point f))) p q x → PropertiesRead fixedProperties p q x
   unfolding fixedPoint fixedProperties bind
   fixed-read p q x h = rw (← h .1 .1 .1) (h .0, (h .1 .0, (h .1 .1 .0, refl)))
 
@@ -139,7 +139,7 @@ module _ (s : List ℕ) (longest : ℕ) where
       let j = i .1 .1 .1 in
       rw (← j .1) (h .0, (h .1 .0, (h .1 .1 .0, (h .1 .1 .1 .0, (i .0, (i .1 .0, (i .1 .1 .0, (j .0, refl))))))))
 
-  float-read : (p q : ℕ) (x : Properties) → Stands s (bind floatingPoint (λ f. done (floating-point f))) p q x → ReadFloat x → PropertiesRead floatFormat p q x
+  pub float-read : (p q : ℕ) (x : Properties) → Stands s (bind floatingPoint (λ f. done (floating-point f))) p q x → ReadFloat x → PropertiesRead floatFormat p q x
   unfolding floatFormat
   float-read p q x h r =
       let b = stands-bind s floatingPoint (λ f. done (floating-point f)) p q x h in

@@ -1,6 +1,7 @@
 -- What the record of a datatype that is read has of the standard's datatype message. Assumes nothing: these are definitions.
 use Prim.Native.Nat.{ℕ}
 use mathlib.Core.Path.{_≡_}
+use mathlib.Core.Logic.{_⊎_}
 use mathlib.Core.List.{List}
 use lib.Dec.{eqb}
 use Rattle.format.specs.Format.{Stands, pick}
@@ -14,6 +15,7 @@ use Rattle.ohdr_datatype.specs.declared.DataTypeHeader.{DataTypeHeader}
 use Rattle.ohdr_datatype.specs.DataTypes.{listSize}
 use Rattle.standard.specs.Datatypes.{DatatypeHeader, datatypeHeader, class, Datatype, datatype, headerOf, Properties, fixed-point, floating-point, no-properties, members, parent-type, Member1, Member}
 use Rattle.standard.specs.DatatypeRules.{InVersion1, OfMembers, Each}
+use Rattle.standard_datatype.specs.ReadTypes.{single, double}
 
 -- the format of a number is that of the property fields; a variable-length type takes it of its parent type, and so on to the innermost
 abbrev mutual
@@ -52,10 +54,22 @@ pub record SameHeader (ours : DataType) (theirs : DatatypeHeader) : Type 0 where
   pub size : ours .size ≡ theirs .size
   pub list-size : ours .«list_size» ≡ listSizeOf theirs
 
+-- properties of a number are those of its class, and a float that is read is IEEE single or double (docs/DIFFERENCES.md, 31)
+abbrev pub OfClass : ℕ → Properties → Type 0
+OfClass class (fixed-point f) = class ≡ 0
+OfClass class (floating-point f) = (class ≡ 1) × ((f ≡ single) ⊎ (f ≡ double))
+OfClass class no-properties = Unit {0}
+OfClass class (members m) = Unit {0}
+OfClass class (parent-type t) = class ≡ 9
+
+abbrev pub propertiesOf : Datatype → Properties
+propertiesOf (datatype h p) = p
+
 -- and its properties; nothing is handed out of the members of a compound
 pub record SameType (ours : DataType) (theirs : Datatype) : Type 0 where
   pub header : SameHeader ours (headerOf theirs)
   pub properties : ours .«data_fmt» ≡ formatOf theirs
+  pub of-class : OfClass (class (headerOf theirs)) (propertiesOf theirs)
   pub members : Each ScalarMembers theirs
 
 -- the header alone stands at p

@@ -17,15 +17,16 @@ use Rattle.records.specs.declared.OptionDataFormat.the-variants as optionFormat
 use Rattle.records.specs.declared.DataType.{DataType}
 use Rattle.ohdr_datatype.specs.declared.DataTypeHeader.{DataTypeHeader}
 use Rattle.ohdr_datatype.specs.declared.FloatProperties.{FloatProperties}
-use Rattle.ohdr_datatype.specs.DataTypes.{classOf, versionOf, knownVersion, knownClass, knownType, dataTypeHeader, fixedProperties, floatProperties, ieee, floatFormat, memberFields, plain, listProperties, typeLayer, dataType}
+use Rattle.ohdr_datatype.specs.DataTypes.{classOf, versionOf, knownVersion, knownClass, knownType, dataTypeHeader, fixedProperties, floatProperties, floatIs, ieee, floatFormat, memberFields, plain, listProperties, typeLayer, dataType}
 use Rattle.ohdr_datatype.specs.DataTypes as ours
 use Rattle.standard.specs.Fields.{only}
 use Rattle.standard.specs.Tie.{Stood, Tied, TiedBut, tied-done, tied-number, tied-check, tied-bind, but-tied, but-more, Either, in-first, in-second, but-bind}
 use Rattle.standard.specs.TieMore.{but-map}
 use Rattle.standard.specs.Datatypes.{DatatypeHeader, datatypeHeader, version, fixedPoint, FloatingPoint, floatingPoint, member, Datatype, datatype, Properties, fixed-point, floating-point, members, parent-type, Members, more-members, membersOf, compound, properties, datatypeOf, datatypeMessage}
 use Rattle.standard_datatype.specs.Differences.{nameLimit, LongName, TypeDiffers, in-properties, PropertiesDiffer, compound-of-size-0, in-members, in-parent-type, MembersDiffer, long-name, in-member-type, in-later}
-use Rattle.standard_datatype.specs.Same.{formatIn, typeOf, ScalarMember, ScalarMembers, SameHeader, SameType, HeaderStood}
+use Rattle.standard_datatype.specs.Same.{formatIn, typeOf, OfClass, ScalarMember, ScalarMembers, SameHeader, SameType, HeaderStood}
 use Rattle.standard_datatype.specs.Members.{member-tied}
+use Rattle.standard_datatype.specs.ReadTypes.{single, double}
 use Rattle.standard.specs.DatatypeRules.{EveryMember, EachInside, EachMember}
 
 -- the header of the standard that has the fields of ours
@@ -48,14 +49,15 @@ same-header : (h : DataTypeHeader) (b : DatatypeHeader) (f : OptionDataFormat) (
 same-header h b f t e d = rw (← e, ← d) (record { class-and-version = refl; class-bit-field = refl; size = refl; list-size = refl })
 
 -- the properties of ours are those of the standard, and members of version 1 are scalar
-record SameProperties (f : OptionDataFormat) (p : Properties) : Type 0 where
+record SameProperties (class : ℕ) (f : OptionDataFormat) (p : Properties) : Type 0 where
   format : f ≡ formatIn p
+  of-class : OfClass class p
   outside : (h : DatatypeHeader) → ScalarMembers h p
   inside : EachInside ScalarMembers p
 
-fixed-tied : Tied SameProperties fixedProperties (bind fixedPoint (λ f. done (fixed-point f)))
+fixed-tied : Tied (SameProperties 0) fixedProperties (bind fixedPoint (λ f. done (fixed-point f)))
 unfolding fixedProperties fixedPoint bind
-fixed-tied = tied-number (λ o. tied-number (λ p. tied-done (record { format = refl; outside = λ _. tt; inside = tt })))
+fixed-tied = tied-number (λ o. tied-number (λ p. tied-done (record { format = refl; of-class = refl; outside = λ _. tt; inside = tt })))
 
 -- the seven fields of a floating-point number
 abbrev theFloat : FloatProperties → FloatingPoint
@@ -74,14 +76,42 @@ float-fields-tied : Tied (λ f g. theFloat f ≡ g) floatProperties floatingPoin
 unfolding floatProperties floatingPoint
 float-fields-tied = tied-number (λ a. tied-number (λ b. tied-number (λ c. tied-number (λ d. tied-number (λ e. tied-number (λ f. tied-number (λ g. tied-done refl)))))))
 
-float-tied : Tied SameProperties floatFormat (bind floatingPoint (λ f. done (floating-point f)))
-unfolding floatFormat
-float-tied = tied-bind float-fields-tied (λ f g e. tied-check (ieee f) 11 (λ _. tied-done (record { format = ap (λ (x : FloatingPoint). formatIn (floating-point x)) e; outside = λ _. tt; inside = tt })))
+-- IEEE single or double, field by field
+float-is : (f : FloatProperties) (precision location exponent mantissa bias : ℕ) → floatIs f precision location exponent mantissa bias ≡ true
+    → theFloat f ≡ record { bit-offset = 0; bit-precision = precision; exponent-location = location; exponent-size = exponent; mantissa-location = 0; mantissa-size = mantissa; exponent-bias = bias }
+unfolding floatIs
+float-is f precision location exponent mantissa bias e =
+    let a = and-right (eqb (f .«bit_offset») 0) _ e in
+    let b = and-right (eqb (f .«mantissa_location») 0) _ a in
+    let c = and-right (eqb (f .«bit_precision») precision) _ b in
+    let d = and-right (eqb (f .«exponent_location») location) _ c in
+    let g = and-right (eqb (f .«exponent_size») exponent) _ d in
+    rw (
+      eqb-true (f .«bit_offset») 0 (and-left (eqb (f .«bit_offset») 0) _ e),
+      eqb-true (f .«mantissa_location») 0 (and-left (eqb (f .«mantissa_location») 0) _ a),
+      eqb-true (f .«bit_precision») precision (and-left (eqb (f .«bit_precision») precision) _ b),
+      eqb-true (f .«exponent_location») location (and-left (eqb (f .«exponent_location») location) _ c),
+      eqb-true (f .«exponent_size») exponent (and-left (eqb (f .«exponent_size») exponent) _ d),
+      eqb-true (f .«mantissa_size») mantissa (and-left (eqb (f .«mantissa_size») mantissa) _ g),
+      eqb-true (f .«exponent_bias») bias (and-right (eqb (f .«mantissa_size») mantissa) _ g),
+    )
 
 -- one of two tests has passed
 either : (a b : Bool) → (a || b) ≡ true → (a ≡ true) ⊎ (b ≡ true)
 either true b e = inl refl
 either false b e = inr e
+
+float-known : (f : FloatProperties) → ieee f ≡ true → (theFloat f ≡ single) ⊎ (theFloat f ≡ double)
+unfolding ieee
+float-known f e = go (either (floatIs f 32 23 8 23 127) (floatIs f 64 52 11 52 1023) e)
+  where
+    go : (floatIs f 32 23 8 23 127 ≡ true) ⊎ (floatIs f 64 52 11 52 1023 ≡ true) → (theFloat f ≡ single) ⊎ (theFloat f ≡ double)
+    go (inl d) = inl (float-is f 32 23 8 23 127 d)
+    go (inr d) = inr (float-is f 64 52 11 52 1023 d)
+
+float-tied : Tied (SameProperties 1) floatFormat (bind floatingPoint (λ f. done (floating-point f)))
+unfolding floatFormat
+float-tied = tied-bind float-fields-tied (λ f g e. tied-check (ieee f) 11 (λ k. tied-done (record { format = ap (λ (x : FloatingPoint). formatIn (floating-point x)) e; of-class = (refl, rw e at (float-known f k)); outside = λ _. tt; inside = tt })))
 
 -- one of two numbers
 pub one-of : (n a b : ℕ) → (eqb n a || eqb n b) ≡ true → (n ≡ a) ⊎ (n ≡ b)
@@ -181,18 +211,18 @@ module _ (longest : ℕ) (wide : 4095 ≤ longest) where
     theirCompound h = bind (compound longest (datatypeMessage longest levels) (theHeader h)) (λ m. done (members m))
 
     abbrev CompoundTied : DataTypeHeader → Type 0
-    CompoundTied h = TiedBut (λ s p. PropertiesDiffer longest s (theHeader h) p) SameProperties (ourCompound h) (theirCompound h)
+    CompoundTied h = TiedBut (λ s p. PropertiesDiffer longest s (theHeader h) p) (SameProperties 6) (ourCompound h) (theirCompound h)
 
     -- no members
     compound-none : (h : DataTypeHeader) → h .«class_bit_field» % 65536 ≡ 0 → CompoundTied h
     unfolding times plain compound membersOf bind
-    compound-none h e = rw e (but-tied (tied-done (record { format = refl; outside = λ _. tt; inside = tt })))
+    compound-none h e = rw e (but-tied (tied-done (record { format = refl; of-class = tt; outside = λ _. tt; inside = tt })))
 
     -- members, but not of version 3 in a compound of size 0
     compound-some : (h : DataTypeHeader) → classOf (h .«class_and_version») ≡ 6 → (versionOf (h .«class_and_version») ≡ 1) ⊎ ((versionOf (h .«class_and_version») ≡ 3) × (0 < h .size)) → h .size < 64 → CompoundTied h
     unfolding compound
     compound-some h c v u =
-        but-more (λ s p d. in-members c d) (but-map members (λ f m e. record { format = e .none; outside = λ _. e .outside; inside = e .inside }) (members-tied (theHeader h) v u (h .«class_bit_field» % 65536)))
+        but-more (λ s p d. in-members c d) (but-map members (λ f m e. record { format = e .none; of-class = tt; outside = λ _. e .outside; inside = e .inside }) (members-tied (theHeader h) v u (h .«class_bit_field» % 65536)))
 
     compound-tied : (h : DataTypeHeader) → classOf (h .«class_and_version») ≡ 6 → (versionOf (h .«class_and_version») ≡ 1) ⊎ (versionOf (h .«class_and_version») ≡ 3) → h .size < 64 → CompoundTied h
     compound-tied h c v u = by-le 1 (h .«class_bit_field» % 65536) (λ n. go (λ e. omega arith) v) (λ n. compound-none h (omega arith))
@@ -202,9 +232,9 @@ module _ (longest : ℕ) (wide : 4095 ≤ longest) where
         go n (inr e) = by-le 1 (h .size) (λ l. compound-some h c (inr (e, l)) u) (λ l. let z : h .size ≡ 0 = omega arith in record { ties = λ s p q a i. inl (compound-of-size-0 c e z n) })
 
     list-tied : (h : DataTypeHeader) → classOf (h .«class_and_version») ≡ 9
-        → TiedBut (λ s p. PropertiesDiffer longest s (theHeader h) p) SameProperties (listProperties (dataType levels)) (bind (datatypeMessage longest levels) (λ t. done (parent-type t)))
+        → TiedBut (λ s p. PropertiesDiffer longest s (theHeader h) p) (SameProperties 9) (listProperties (dataType levels)) (bind (datatypeMessage longest levels) (λ t. done (parent-type t)))
     unfolding listProperties
-    list-tied h c = but-more differs (but-bind types (λ a b e. but-tied {D = λ _ _. ⊥} (tied-done (record { format = e .properties; outside = λ _. tt; inside = e .members }))))
+    list-tied h c = but-more differs (but-bind types (λ a b e. but-tied {D = λ _ _. ⊥} (tied-done (record { format = e .properties; of-class = refl; outside = λ _. tt; inside = e .members }))))
       where
         differs : (s : List ℕ) (p : ℕ) → Either (λ s p. TypeDiffers longest s p) (datatypeMessage longest levels) (λ _ _ _. ⊥) s p → PropertiesDiffer longest s (theHeader h) p
         differs s p (in-first d) = in-parent-type c d
@@ -220,15 +250,15 @@ module _ (longest : ℕ) (wide : 4095 ≤ longest) where
     known-class h k = and-right (knownVersion (versionOf (h .«class_and_version»))) (knownClass (classOf (h .«class_and_version»))) k
 
     properties-tied : (h : DataTypeHeader) → knownType (h .«class_and_version») ≡ true → ltb (h .size) 64 ≡ true
-        → TiedBut (λ s p. PropertiesDiffer longest s (theHeader h) p) SameProperties (ours.properties h (dataType levels)) (properties longest (datatypeMessage longest levels) (theHeader h))
+        → TiedBut (λ s p. PropertiesDiffer longest s (theHeader h) p) (SameProperties (classOf (h .«class_and_version»))) (ours.properties h (dataType levels)) (properties longest (datatypeMessage longest levels) (theHeader h))
     unfolding ours.properties properties plain
     properties-tied h k l =
         by-class (classOf (h .«class_and_version»)) (known-class h k)
         (λ e. rw e (but-tied fixed-tied))
         (λ e. rw e (but-tied float-tied))
-        (λ e. rw e (but-tied (tied-done (record { format = refl; outside = λ _. tt; inside = tt }))))
+        (λ e. rw e (but-tied (tied-done (record { format = refl; of-class = tt; outside = λ _. tt; inside = tt }))))
         (λ e. rw e (compound-tied h e (one-of (versionOf (h .«class_and_version»)) 1 3 (known-version h k)) (ltb-true (h .size) 64 l)))
-        (λ e. rw e (but-tied (tied-done (record { format = refl; outside = λ _. tt; inside = tt }))))
+        (λ e. rw e (but-tied (tied-done (record { format = refl; of-class = tt; outside = λ _. tt; inside = tt }))))
         (λ e. rw e (list-tied h e))
 
     -- what follows the header
@@ -242,8 +272,8 @@ module _ (longest : ℕ) (wide : 4095 ≤ longest) where
         → TiedBut (λ s p. PropertiesDiffer longest s (theHeader h) p) SameType (ourRest h) (theirRest (theHeader h))
     rest-tied h k l = rw (known-version h k) (but-more differs (but-bind (properties-tied h k l) (λ f p e. but-tied {D = λ _ _. ⊥} (tied-done (same f p e)))))
       where
-        same : (f : OptionDataFormat) (p : Properties) → SameProperties f p → SameType (typeOf h f) (datatype (theHeader h) p)
-        same f p e = record { header = same-header h (theHeader h) f (typeOf h f) refl refl; properties = e .format; members = (e .outside (theHeader h), e .inside) }
+        same : (f : OptionDataFormat) (p : Properties) → SameProperties (classOf (h .«class_and_version»)) f p → SameType (typeOf h f) (datatype (theHeader h) p)
+        same f p e = record { header = same-header h (theHeader h) f (typeOf h f) refl refl; properties = e .format; of-class = e .of-class; members = (e .outside (theHeader h), e .inside) }
 
         differs : (s : List ℕ) (p : ℕ) → Either (λ s p. PropertiesDiffer longest s (theHeader h) p) (properties longest (datatypeMessage longest levels) (theHeader h)) (λ _ _ _. ⊥) s p
             → PropertiesDiffer longest s (theHeader h) p

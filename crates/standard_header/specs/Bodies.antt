@@ -1,7 +1,7 @@
 -- What stands in the body of a message is the specification's message of its type.
 -- Entries are those of docs/DIFFERENCES.md, part one. Assumes nothing.
 use Prim.Native.Nat.{ℕ, _≤_}
-use mathlib.Core.Path.{_≡_, refl}
+use mathlib.Core.Path.{_≡_, refl, ap}
 use mathlib.Core.Logic.{_⊎_}
 use mathlib.Core.Bool.{Bool, true, false}
 use mathlib.Core.List.{List, [], _∷_}
@@ -20,6 +20,9 @@ use Rattle.records.specs.declared.GroupInfo.{GroupInfo}
 use Rattle.records.specs.declared.AttributeInfo.{AttributeInfo}
 use Rattle.records.specs.declared.DataType.{DataType}
 use Rattle.records.specs.declared.Attribute.{Attribute}
+use Rattle.records.specs.declared.Number.{Number}
+use Rattle.records.specs.declared.Value.{Value}
+use Rattle.records.specs.Numbers.{numberCase, numberBits, valueText, valueCase, valueBits}
 use Rattle.parser.specs.declared.State.{State}
 use Rattle.grammar.specs.Message.{Kept}
 use Rattle.grammar.specs.Message as messages
@@ -46,9 +49,10 @@ use Rattle.standard_datatype.specs.Same.{SameType, HeaderStood}
 use Rattle.standard_datatype.specs.Ties.{datatype-tied, header-fields-tied}
 use Rattle.standard_attribute.specs.Differences.{AttributeDiffers}
 use Rattle.standard_attribute.specs.Same.{Less, SameAttribute, NameStood}
-use Rattle.standard_attribute.specs.TextValues.{TextValue, dataOf}
+use Rattle.standard_attribute.specs.SameNumbers.{AreBytes, SameNumber}
+use Rattle.standard_attribute.specs.TextValues.{TextValue, NumberValue, describedOf, dataOf}
 use Rattle.standard_attribute.specs.Ties.{attribute-tied, name-tied}
-use Rattle.standard_attribute.specs.Values.{value-is-read}
+use Rattle.standard_attribute.specs.Values.{text-value, number-value, value-is-read}
 
 -- the types whose messages are read in place; 16 is the continuation
 abbrev pub readTypes : List ℕ
@@ -87,6 +91,30 @@ module _ (file : List ℕ) (s : State) where
       (longest levels upto : ℕ) (x : standard.Attribute) → Stands file (attributeMessage longest levels (s .«size_of_lengths»)) b upto x → TextValue (s .«size_of_lengths») x
       → (q ≡ upto) × ((text : Part) × (part ≡ parts.Some text) × Less file text (dataOf x))
 
+  -- Where it stands with a number, the two words are the case and the bits of the number that its data field is by the table of its class. What is
+  -- said of numbers is said of a file of bytes.
+  abbrev pub NumberAt : ℕ → ℕ → ℕ → ℕ → Type 0
+  NumberAt b q case bits =
+      AreBytes file → (longest levels upto : ℕ) (x : standard.Attribute) → Stands file (attributeMessage longest levels (s .«size_of_lengths»)) b upto x → NumberValue (s .«size_of_lengths») x
+      → (q ≡ upto) × ((n : Number) × (case ≡ numberCase n) × (bits ≡ numberBits n) × SameNumber file (describedOf x .datatype) (dataOf x .position) n)
+
+  -- what an attribute's row has of its value
+  abbrev pub ValueAt : ℕ → ℕ → Value → Type 0
+  ValueAt b q v = TextAt b q (valueText v) × NumberAt b q (valueCase v) (valueBits v)
+
+  value-at : (b q : ℕ) (a : Attribute) → Stands file (attribute s) b q a → ValueAt b q (a .value)
+  value-at b q a i = (text, number)
+    where
+      text : TextAt b q (valueText (a .value))
+      text longest levels upto x h r =
+          let v = value-is-read file s b upto q _ _ a (text-value file s longest levels b upto x h r) i in
+          (v .0, (v .1 .0, ap valueText (v .1 .1), v .1 .2))
+
+      number : NumberAt b q (valueCase (a .value)) (valueBits (a .value))
+      number bytes longest levels upto x h r =
+          let v = value-is-read file s b upto q _ _ a (number-value file s bytes longest levels b upto x h r) i in
+          (v .0, (v .1 .0, ap valueCase (v .1 .1), ap valueBits (v .1 .1), v .1 .2))
+
 module _ (file : List ℕ) where
   abbrev pub GroupInfoAt : ℕ → ℕ → GroupInfo → Type 0
   GroupInfoAt b q g = Stood SameGroupInfo groupInfoMessage file b q g
@@ -117,7 +145,7 @@ module _ (file : List ℕ) (s : State) (longest : ℕ) where
     -- the name is the specification's whatever follows it
     pub name : NameStood file b (a .name)
     pub whole : AttributeDiffers file s longest b ⊎ Stood (SameAttribute file) (attributeMessage longest typeLevels (s .«size_of_lengths»)) file b q a
-    pub text : TextAt file s b q (a .value)
+    pub value : ValueAt file s b q (a .value)
 
   -- BodyIs b q type kept: the message of this type stands from b to q, and what is kept of it is its record.
   -- Of the types that are not read no field is read and nothing is kept (entry 15).
@@ -134,19 +162,19 @@ module _ (file : List ℕ) (s : State) (longest : ℕ) where
     attribute-info : {q : ℕ} (a : AttributeInfo) → AttributeInfoAt file s b q a → BodyIs b q 21 (messages.attributeInfo a)
     not-read : {type : ℕ} → Every (λ n. type ≡ n → ⊥) readTypes → BodyIs b b type messages.nothing
 
-  -- of type 12 the part that a row has is such a text
-  pub text-part : {b q type : ℕ} {k : Kept} → BodyIs b q type k → type ≡ 12 → TextAt file s b q (messages.partOf k)
-  text-part (dataspace d h) e = absurd (omega arith)
-  text-part (link-info l h) e = absurd (omega arith)
-  text-part (datatype t h) e = absurd (omega arith)
-  text-part (fill-value-old h) e = absurd (omega arith)
-  text-part (fill-value h) e = absurd (omega arith)
-  text-part (data-layout p h) e = absurd (omega arith)
-  text-part (group-info g h) e = absurd (omega arith)
-  text-part (filter-pipeline h) e = absurd (omega arith)
-  text-part (attribute-message a h) e = h .text
-  text-part (attribute-info a h) e = absurd (omega arith)
-  text-part (not-read h) e = absurd (h .1 .1 .1 .1 .1 .1 .1 .1 .0 e)
+  -- of type 12 the part that a row has is such a text, and its number such a number
+  pub value-row : {b q type : ℕ} {k : Kept} → BodyIs b q type k → type ≡ 12 → TextAt file s b q (messages.partOf k) × NumberAt file s b q (valueCase (messages.valueOf k)) (valueBits (messages.valueOf k))
+  value-row (dataspace d h) e = absurd (omega arith)
+  value-row (link-info l h) e = absurd (omega arith)
+  value-row (datatype t h) e = absurd (omega arith)
+  value-row (fill-value-old h) e = absurd (omega arith)
+  value-row (fill-value h) e = absurd (omega arith)
+  value-row (data-layout p h) e = absurd (omega arith)
+  value-row (group-info g h) e = absurd (omega arith)
+  value-row (filter-pipeline h) e = absurd (omega arith)
+  value-row (attribute-message a h) e = h .value
+  value-row (attribute-info a h) e = absurd (omega arith)
+  value-row (not-read h) e = absurd (h .1 .1 .1 .1 .1 .1 .1 .1 .0 e)
 
   module _ (enough : 4095 ≤ longest) where
     -- by whether the type is n
@@ -183,5 +211,5 @@ module _ (file : List ℕ) (s : State) (longest : ℕ) where
     unfolding body layoutBody attributeBody
     body-is type p q k h =
         by-type type 8 p q k _ _ h (one (dataLayout s) messages.dataLayout 8 type p q k (λ m a i. data-layout a (layout-at file s p m a i))) (λ e8 h.
-        by-type type 12 p q k _ _ h (one (attribute s) messages.attribute 12 type p q k (λ m a i. attribute-message a (record { name = name-tied file s p m a i; whole = attribute-tied file s longest enough p m a i; text = λ longest levels upto x h r. value-is-read file s longest levels p upto m x a h r i }))) (λ e12 h.
+        by-type type 12 p q k _ _ h (one (attribute s) messages.attribute 12 type p q k (λ m a i. attribute-message a (record { name = name-tied file s p m a i; whole = attribute-tied file s longest enough p m a i; value = value-at file s p m a i }))) (λ e12 h.
         plain-is type p q k e8 e12 h))

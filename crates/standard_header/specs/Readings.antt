@@ -21,7 +21,7 @@ use Rattle.standard.specs.Headers.{ObjectHeaderPrefix, objectHeaderPrefix, Head
 use Rattle.standard.specs.Chunks.{ChecksumStands, ObjectHeader}
 use Rattle.standard_header.specs.Prefixes.{SameHeader, header-tied}
 use Rattle.standard_header.specs.Same.{OneByOne, as-many, SameMessage, noContinuations, SameHeld, SameEntries, same-messages}
-use Rattle.standard_header.specs.Bodies.{TextAt, text-part}
+use Rattle.standard_header.specs.Bodies.{TextAt, NumberAt, value-row}
 use Rattle.standard_header.specs.Chunks.{ChunkDiffers, ChunkIs, ReadUpTo, MessageIs, EntriesAre, none, a-message, a-continuation, run-is}
 use Rattle.standard_header.specs.Whole.{InBlocks, WholeChunk, whole-chunk}
 
@@ -67,11 +67,13 @@ module _ (file : List ℕ) (s : State) (longest : ℕ) where
     pub is : MessageIs file s longest header-flags from upto m
     -- an attribute's row has the text that the specification's message has
     pub text : m .type ≡ 12 → TextAt file s (m .body) (is .in-entry .fields-end) (rowOf m .part)
+    -- and the number
+    pub number : m .type ≡ 12 → NumberAt file s (m .body) (is .in-entry .fields-end) (rowOf m .«number_case») (rowOf m .«number_bits»)
 
   pub each-message : {header-flags : ℕ} {own all : List Item} → EntriesAre file s longest header-flags own all → All (RowIs header-flags) (messagesOf all)
   each-message {header-flags} h = elim h as (λ own all y. All (RowIs header-flags) (messagesOf all)) [
     | none ↦ tt
-    | a-message {p = p} {q = q} x (r → f) ↦ (record { from = p; upto = q; is = x; text = text-part file s longest (x .body-of) }, f)
+    | a-message {p = p} {q = q} x (r → f) ↦ (record { from = p; upto = q; is = x; text = λ e. value-row file s longest (x .body-of) e .0; number = λ e. value-row file s longest (x .body-of) e .1 }, f)
     | a-continuation {all = all} {block-all = is} x b (r → g) (t → f) ↦
         subst (All (RowIs header-flags)) (sym (messagesOf-append is all)) (all-append (RowIs header-flags) (messagesOf is) (messagesOf all) g f)
   ]

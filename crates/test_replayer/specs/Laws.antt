@@ -18,7 +18,6 @@ use Rattle.data_object_words.specs.Handed.{Handed}
 use Rattle.data_object_words.specs.Told.{rows-told}
 use Rattle.test_report.specs.declared.Matched.{Matched}
 use Rattle.test_report.specs.Follows.{Follows, Whole, start}
-use Rattle.test_report.specs.Report.{reportOf}
 use Rattle.test_replayer.specs.declared.Lead.{Lead}
 use Rattle.test_replayer.specs.declared.LeadRead.{LeadRead}
 use Rattle.test_replayer.specs.declared.LeadRead.the-variants as leads
@@ -76,5 +75,5 @@ module _ (file : List ℕ) (l : Lead) (t w : List ℕ) (h : Handed file (l .offs
   pub few-rows : getD w 3 0 ≤ 64
   few-rows = omega (arith, rows-told h, length-replicate {A = ℕ} (64 * rowWords) 0)
 
-  pub answered : (expected : List ℕ) (reached : Matched) (b : Bool) → Follows expected start reached (reportOf file t w) → Whole expected reached b → Replays expected file l b
-  answered expected reached b f v = record { table = t; words = w; handed = rw (length-replicate {A = ℕ} (64 * rowWords) 0) at h; says = v (reportOf file t w) f }
+  pub answered : (text : List ℕ → List ℕ → List ℕ) (expected : List ℕ) (reached : Matched) (b : Bool) → Follows expected start reached (text t w) → Whole expected reached b → Replays text expected file l b
+  answered text expected reached b f v = record { table = t; words = w; handed = rw (length-replicate {A = ℕ} (64 * rowWords) 0) at h; says = v (text t w) f }

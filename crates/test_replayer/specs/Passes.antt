@@ -1,13 +1,15 @@
 -- What it says that a case passed. Assumes nothing: these are definitions.
 use Prim.Native.Nat.{ℕ}
 use mathlib.Core.Path.{_≡_}
-use mathlib.Core.Bool.{Bool, true, false}
+use mathlib.Core.Bool.{Bool, true}
 use mathlib.Core.List.{List, _++_}
 use lib.ListN.{length}
 use Rattle.format.specs.Bytes.{le}
-use Rattle.format.specs.Format.{pick}
 use Rattle.lookup3.specs.Lookup3.{lookup3}
 use Rattle.listing_text.specs.Listing.{headerText, listingOf}
+use Rattle.test_report.specs.Report.{reportOf, numbersOf}
+use Rattle.test_replayer.specs.declared.HeaderText.{HeaderText}
+use Rattle.test_replayer.specs.declared.HeaderText.the-variants as texts
 use Rattle.test_replayer.specs.declared.Against.{Against}
 use Rattle.test_replayer.specs.declared.Against.the-variants as againsts
 use Rattle.test_replayer.specs.declared.Lead.{Lead}
@@ -27,9 +29,15 @@ ListsHeader expected file l b =
     expected
     b
 
--- of the header behind the lead, by its listing and its check or by its report
-abbrev pub HeaderSays : Bool → List ℕ → List ℕ → Bool → Type 0
-HeaderSays listing input expected b = Led (λ file l v. pick listing (ListsHeader expected file l v) (Replays expected file l v)) input b
+-- the text of the header is what is expected: its listing with the line of its check, its report, or its numbers
+abbrev pub TextSays : HeaderText → List ℕ → List ℕ → Lead → Bool → Type 0
+TextSays texts.Listing expected file l b = ListsHeader expected file l b
+TextSays texts.Report expected file l b = Replays (reportOf file) expected file l b
+TextSays texts.Numbers expected file l b = Replays numbersOf expected file l b
+
+-- of the header behind the lead
+abbrev pub HeaderSays : HeaderText → List ℕ → List ℕ → Bool → Type 0
+HeaderSays text input expected b = Led (TextSays text expected) input b
 
 -- the expected bytes are the sum of the input: four, the lowest first
 abbrev pub IsSum : List ℕ → List ℕ → Type 0
@@ -41,6 +49,7 @@ Sums input expected b = (b ≡ true → IsSum input expected) × (IsSum input ex
 -- by what is expected
 abbrev pub Says : Against → List ℕ → List ℕ → Bool → Type 0
 Says againsts.Listing input expected b = Lists input expected b
-Says againsts.HeaderListing input expected b = HeaderSays true input expected b
-Says againsts.Report input expected b = HeaderSays false input expected b
+Says againsts.HeaderListing input expected b = HeaderSays texts.Listing input expected b
+Says againsts.Report input expected b = HeaderSays texts.Report input expected b
+Says againsts.Numbers input expected b = HeaderSays texts.Numbers input expected b
 Says againsts.Sum input expected b = Sums input expected b

@@ -1,5 +1,5 @@
 // Whether a case passes: its input has the listing, with the line of its check where it is a header,
-// the report of its header, or the sum, that is expected.
+// the report or the numbers of its header, or the sum, that is expected.
 use data_object_check::CheckAnswer;
 use data_object_check::HeaderFigures;
 use data_object_check::check_data_object;
@@ -14,27 +14,39 @@ use listing_text::list_header;
 use listing_text::put_refused;
 use lookup3::lookup3;
 use row::ROW_WORDS;
+use test_report::Matched;
 use test_report::ends;
+use test_report::expect_numbers;
 use test_report::expect_report;
 ghost use mathlib.Core.Path.{_≡_};
-ghost use Prim.Native.Nat.{_≤_};
-ghost use lib.ListN.{length};
+ghost use Prim.Native.Nat.{_/_, _≤_};
+ghost use lib.ListN.{length, getD};
 ghost use Rattle.format.specs.Format.{read};
+ghost use Rattle.row.specs.Rows.{rowWords};
 ghost use Rattle.text.specs.Text.{Wrote};
 ghost use Rattle.data_object_check.specs.Checked.{checkOut};
+ghost use Rattle.test_report.specs.Follows.{Follows, start};
 ghost use Rattle.test_replayer.specs.Checks.{passedLine, checkLine, Checks};
 ghost use Rattle.test_replayer.specs.Leads.{lead as leadFormat, leadOut};
 ghost use Rattle.test_replayer.specs.Passes.{Lists, ListsHeader, HeaderSays, Sums, Says};
-ghost use Rattle.test_replayer.specs.Replays.{Replays};
+ghost use Rattle.test_replayer.specs.Replays.{Replays, textOf};
 
 // What is expected of an input: the listing of a plain file; of a header in a file behind the
-// values that are given by hand, its listing with the line of its check, or its report; or the sum
-// of its bytes.
+// values that are given by hand, its listing with the line of its check, its report, or its
+// numbers; or the sum of its bytes.
 pub enum Against {
     Listing,
     HeaderListing,
     Report,
+    Numbers,
     Sum,
+}
+
+// The texts of a header.
+pub enum HeaderText {
+    Listing,
+    Report,
+    Numbers,
 }
 
 // What is given by hand, before the file: the widths of offsets and lengths, the end-of-file address
@@ -148,9 +160,28 @@ fn lists_header(file: &[u8], lead: Lead, expected: &[u8]) -> bool
     false
 }
 
-// Whether the header of a file, decoded into a table of 64 rows, has the report that is expected.
-fn replays(file: &[u8], lead: Lead, expected: &[u8]) -> bool
-    ensures { λ r. ⌜ Replays (now (expected .entry)) (now (file .entry)) lead r ⌝ }
+// How far the numbers of a decoded header, or else its report, stand at the start of what is
+// expected.
+fn expect_text(
+    numbers: bool,
+    expected: &[u8],
+    file: &[u8],
+    table: &[u64],
+    words: &[u64; 63],
+) -> Matched
+    requires { ⌜ getD (now words) 3 0 ≤ length (now table) / rowWords ⌝ }
+    ensures { λ r. ⌜ Follows (now (expected .entry)) start r (textOf numbers (now (file .entry)) (now (table .entry)) (now (words .entry))) ⌝ }
+{
+    if numbers {
+        return expect_numbers(expected, table, words);
+    }
+    expect_report(expected, file, table, words)
+}
+
+// Whether the header of a file, decoded into a table of 64 rows, has the numbers, or else the
+// report, that are expected.
+fn replays(numbers: bool, file: &[u8], lead: Lead, expected: &[u8]) -> bool
+    ensures { λ r. ⌜ Replays (textOf numbers (now (file .entry))) (now (expected .entry)) (now (file .entry)) lead r ⌝ }
 {
     let mut table = [0u64; 64 * ROW_WORDS];
     let mut words = [0u64; 63];
@@ -163,23 +194,23 @@ fn replays(file: &[u8], lead: Lead, expected: &[u8]) -> bool
         &mut table,
         &mut words,
     );
-    let reached = expect_report(expected, file, &table, &words);
+    let reached = expect_text(numbers, expected, file, &table, &words);
     ends(expected, reached)
 }
 
-// Whether the header behind the values given by hand has the listing and the line of its check, or
-// else the report, that is expected.
-fn passes_header(listing: bool, input: &[u8], expected: &[u8]) -> bool
-    ensures { λ r. ⌜ HeaderSays listing (now (input .entry)) (now (expected .entry)) r ⌝ }
+// Whether the header behind the values given by hand has the text that is expected.
+fn passes_header(text: HeaderText, input: &[u8], expected: &[u8]) -> bool
+    ensures { λ r. ⌜ HeaderSays text (now (input .entry)) (now (expected .entry)) r ⌝ }
 {
     let LeadRead::Read(lead, start) = read_lead(input) else {
         return false;
     };
     let file = &input[start..];
-    if listing {
-        return lists_header(file, lead, expected);
+    match text {
+        HeaderText::Listing => lists_header(file, lead, expected),
+        HeaderText::Report => replays(false, file, lead, expected),
+        HeaderText::Numbers => replays(true, file, lead, expected),
     }
-    replays(file, lead, expected)
 }
 
 // Whether the sum of the input is the one that is expected, in four bytes.
@@ -197,8 +228,9 @@ pub fn passes(against: Against, input: &[u8], expected: &[u8]) -> bool
 {
     match against {
         Against::Listing => lists(input, expected),
-        Against::HeaderListing => passes_header(true, input, expected),
-        Against::Report => passes_header(false, input, expected),
+        Against::HeaderListing => passes_header(HeaderText::Listing, input, expected),
+        Against::Report => passes_header(HeaderText::Report, input, expected),
+        Against::Numbers => passes_header(HeaderText::Numbers, input, expected),
         Against::Sum => sums(input, expected),
     }
 }

@@ -9,16 +9,16 @@ use lib.ListN.{getD}
 use Rattle.text.specs.Text.{field}
 use Rattle.row.specs.declared.Row.{Row}
 use Rattle.row.specs.Rows.{rowAt, firstRows}
-use Rattle.test_report.specs.Report.{rowLine, rowLines, figuresOf}
+use Rattle.test_report.specs.Report.{linesOf, figuresOf}
 
-rows-append : (file : List ℕ) (rs qs : List Row) → rowLines file (rs ++ qs) ≡ rowLines file rs ++ rowLines file qs
-rows-append file [] qs = refl
-rows-append file (r ∷ rs) qs = ap (λ (x : List ℕ). rowLine file r ++ x) (rows-append file rs qs) ∙ sym (append-assoc (rowLine file r) (rowLines file rs) (rowLines file qs))
+module _ (line : Row → List ℕ) where
+  lines-append : (rs qs : List Row) → linesOf line (rs ++ qs) ≡ linesOf line rs ++ linesOf line qs
+  lines-append [] qs = refl
+  lines-append (r ∷ rs) qs = ap (λ (x : List ℕ). line r ++ x) (lines-append rs qs) ∙ sym (append-assoc (line r) (linesOf line rs) (linesOf line qs))
 
--- the lines of the first rows of a table, one row more
-pub rows-more : (file t : List ℕ) (n : ℕ) → rowLines file (firstRows t (n + 1)) ≡ rowLines file (firstRows t n) ++ rowLine file (rowAt t n)
-rows-more file t n =
-    rw (add-one n) (rows-append file (firstRows t n) (rowAt t n ∷ []) ∙ ap (λ (x : List ℕ). rowLines file (firstRows t n) ++ x) (append-nil (rowLine file (rowAt t n))))
+  -- the lines of the first rows of a table, one row more
+  pub lines-more : (t : List ℕ) (n : ℕ) → linesOf line (firstRows t (n + 1)) ≡ linesOf line (firstRows t n) ++ line (rowAt t n)
+  lines-more t n = rw (add-one n) (lines-append (firstRows t n) (rowAt t n ∷ []) ∙ ap (λ (x : List ℕ). linesOf line (firstRows t n) ++ x) (append-nil (line (rowAt t n))))
 
 -- the words from a place up to i, and one more
 pub figures-none : (words : List ℕ) (first : ℕ) → figuresOf words first (first - first) ≡ []

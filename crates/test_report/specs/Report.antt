@@ -1,4 +1,4 @@
--- The report of a decoded header: its words and its table as lines of text. Assumes nothing: these are definitions.
+-- The report of a decoded header: its words and its table as lines of text; and the numbers of its rows. Assumes nothing: these are definitions.
 use Prim.Native.Nat.{ℕ, zero, suc, _+_, _-_}
 use mathlib.Core.Bool.{true, false}
 use mathlib.Core.List.{List, [], _∷_, _++_}
@@ -32,10 +32,14 @@ headOf r =
 unfoldable pub rowLine : List ℕ → Row → List ℕ
 rowLine file r = headOf r ++ (pieceOf file (r .name) ++ ((44 ∷ []) ++ (pieceOf file (r .part) ++ (10 ∷ []))))
 
+-- a line a row
+abbrev pub linesOf : (Row → List ℕ) → List Row → List ℕ
+linesOf line [] = []
+linesOf line (r ∷ rs) = line r ++ linesOf line rs
+
 -- the lines of rows
 abbrev pub rowLines : List ℕ → List Row → List ℕ
-rowLines file [] = []
-rowLines file (r ∷ rs) = rowLine file r ++ rowLines file rs
+rowLines file rs = linesOf (rowLine file) rs
 
 -- `data,LENGTH,BYTES`
 unfoldable pub dataOf : List ℕ → Part → List ℕ
@@ -78,6 +82,18 @@ answerOf file table words =
     ++ (recordsOf words
     ++ dataOf file (record { position = getD words 61 0; length = getD words 62 0 }))))
 
--- the report of a header whose words these are, in the order of `wordsOf`, and whose rows stand in the table
+-- the text of a header whose words these are, in the order of `wordsOf`: what is told of one that is read, or the refusal
+abbrev pub told : List ℕ → List ℕ → List ℕ
+told words answer = pick (eqb (getD words 0 0) 0) answer refusedOf
+
+-- its report, where its rows stand in the table
 unfoldable pub reportOf : List ℕ → List ℕ → List ℕ → List ℕ
-reportOf file table words = pick (eqb (getD words 0 0) 0) (answerOf file table words) refusedOf
+reportOf file table words = told words (answerOf file table words)
+
+-- `CASE,BITS`: which number a row has, and its bits; zeros where it has none
+unfoldable pub numberLine : Row → List ℕ
+numberLine r = field true (r .«number_case») 44 ++ field true (r .«number_bits») 10
+
+-- and its numbers: those of each row
+unfoldable pub numbersOf : List ℕ → List ℕ → List ℕ
+numbersOf table words = told words (linesOf numberLine (firstRows table (getD words 3 0)))

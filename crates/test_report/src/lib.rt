@@ -1,4 +1,5 @@
-// The report of a decoded header, compared piece after piece with the bytes that are expected.
+// The report of a decoded header, or the numbers of its rows, compared piece after piece with the
+// bytes that are expected.
 use data_object::layout_data;
 use records::OptionPart;
 use records::Part;
@@ -9,7 +10,7 @@ ghost use lib.ListN.{length, getD};
 ghost use Rattle.row.specs.Rows.{rowWords, firstRows};
 ghost use Rattle.text.specs.Text.{field};
 ghost use Rattle.test_report.specs.Follows.{Follows, Whole, start};
-ghost use Rattle.test_report.specs.Report.{pieceOf, headOf, rowLine, rowLines, dataOf, wordsLine, recordsOf, reportOf};
+ghost use Rattle.test_report.specs.Report.{pieceOf, headOf, rowLine, linesOf, rowLines, dataOf, wordsLine, recordsOf, refusedOf, reportOf, numberLine, numbersOf};
 
 // The expected bytes are met up to a position, or differ before it.
 pub enum Matched {
@@ -153,6 +154,12 @@ fn expect_records(expected: &[u8], from: Matched, words: &[u64; 63]) -> Matched
     expect_words(expected, met, words, 58, 60)
 }
 
+fn expect_refused(expected: &[u8]) -> Matched
+    ensures { λ r. ⌜ Follows (now (expected .entry)) start r refusedOf ⌝ }
+{
+    expect_bytes(expected, Matched::At(0), b"refused\n")
+}
+
 // How far the report of a header, given as its words and its table, stands at the start of what is
 // expected.
 pub fn expect_report(expected: &[u8], file: &[u8], table: &[u64], words: &[u64; 63]) -> Matched
@@ -160,7 +167,7 @@ pub fn expect_report(expected: &[u8], file: &[u8], table: &[u64], words: &[u64; 
     ensures { λ r. ⌜ Follows (now (expected .entry)) start r (reportOf (now (file .entry)) (now (table .entry)) (now (words .entry))) ⌝ }
 {
     if words[0] != 0 {
-        return expect_bytes(expected, Matched::At(0), b"refused\n");
+        return expect_refused(expected);
     }
     let part = Part {
         position: words[61] as usize,
@@ -171,4 +178,36 @@ pub fn expect_report(expected: &[u8], file: &[u8], table: &[u64], words: &[u64; 
     let met = expect_rows(expected, met, file, table, words[3] as usize);
     let met = expect_records(expected, met, words);
     expect_data(expected, met, file, part)
+}
+
+// Which number a row has, and its bits.
+fn expect_number(expected: &[u8], from: Matched, row: Row) -> Matched
+    ensures { λ r. ⌜ Follows (now (expected .entry)) from r (numberLine row) ⌝ }
+{
+    let met = expect_field(expected, from, true, row.number_case, b',');
+    expect_field(expected, met, true, row.number_bits, b'\n')
+}
+
+fn expect_row_numbers(expected: &[u8], from: Matched, table: &[u64], rows: usize) -> Matched
+    requires { ⌜ rows ≤ length (now table) / rowWords ⌝ }
+    ensures { λ r. ⌜ Follows (now (expected .entry)) from r (linesOf numberLine (firstRows (now (table .entry)) rows)) ⌝ }
+{
+    let mut met = from;
+    let mut i = 0;
+    while i < rows {
+        met = expect_number(expected, met, row_at(table, i));
+        i += 1;
+    }
+    met
+}
+
+// How far the numbers of a header's rows stand at the start of what is expected.
+pub fn expect_numbers(expected: &[u8], table: &[u64], words: &[u64; 63]) -> Matched
+    requires { ⌜ getD (now words) 3 0 ≤ length (now table) / rowWords ⌝ }
+    ensures { λ r. ⌜ Follows (now (expected .entry)) start r (numbersOf (now (table .entry)) (now (words .entry))) ⌝ }
+{
+    if words[0] != 0 {
+        return expect_refused(expected);
+    }
+    expect_row_numbers(expected, Matched::At(0), table, words[3] as usize)
 }

@@ -5,6 +5,7 @@ use std::io::Write;
 
 use crate::address::{Address, OptionalAddress, Place, Seen, all_ones};
 use crate::input::Input;
+use crate::number::Number;
 
 /// What a superblock hands out.
 #[derive(Clone, Debug, Default, PartialEq, Eq)]
@@ -56,6 +57,8 @@ pub struct Row {
     pub name: Option<Vec<u8>>,
     /// An attribute's value, or a layout's data.
     pub part: Option<Vec<u8>>,
+    /// Absent in the Rust, which knows none, and so in no report.
+    pub number: Option<Number>,
 }
 
 // The records as the words of dowringaf.h: each struct is made of 64-bit words alone.
@@ -226,6 +229,15 @@ impl Header {
         blob(&mut out, Some(&self.data));
         out.push(b'\n');
         out
+    }
+
+    /// The numbers of the rows that have one, a line for each, which is no part of the report.
+    pub fn numbers(&self) -> String {
+        let rows = self.rows.iter().enumerate();
+        let numbers = rows.filter_map(|(row, one)| Some((row, one.number?)));
+        let some = numbers.filter(|(_, number)| *number != Number::default());
+        some.map(|(row, Number { case, bits })| format!("number,{row},{case},{bits}\n"))
+            .collect()
     }
 
     /// Whether every name and text is UTF-8 as it stands in the file.

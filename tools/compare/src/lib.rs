@@ -12,6 +12,7 @@ mod hdf;
 mod hdf_mended;
 pub mod input;
 pub mod listing;
+pub mod number;
 pub mod pair;
 pub mod plain;
 pub mod port;

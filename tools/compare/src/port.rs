@@ -4,9 +4,12 @@
 use crate::address::Address;
 use crate::answer::{Header, Records, Row, SuperBlock, words};
 use crate::input::Input;
+use crate::number::Number;
 use crate::pair::{ALL_ROWS, Figures, Filling, Pair, Sizes, TABLE_TOO_SMALL};
 
-pub const ROW_WORDS: usize = 10;
+pub const ROW_WORDS: usize = 12;
+/// The first of a row's two words that are of its number.
+pub const NUMBER: usize = 10;
 /// Rows that are lent first: enough for most headers, and cleared quickly. Where they were too few,
 /// all are lent.
 const FEW_ROWS: usize = 64;
@@ -394,6 +397,10 @@ fn row(file: &[u8], words: &[u64]) -> Row {
         body: words[3],
         name: part(4),
         part: part(7),
+        number: Some(Number {
+            case: words[NUMBER],
+            bits: words[NUMBER + 1],
+        }),
     }
 }
 

@@ -16,7 +16,7 @@ use crate::input::{Input, get, padding};
 use crate::rust::Entry;
 
 const DATA_TYPE: u8 = 3;
-const ATTRIBUTE: u8 = 12;
+pub const ATTRIBUTE: u8 = 12;
 const LEVELS: u32 = 32;
 const LONGEST_NAME: usize = 4096;
 const STRING_LIMIT_V1: usize = 255;
@@ -52,6 +52,28 @@ pub enum Form {
     },
     /// Of a version 1 attribute: above 8 bytes, and no multiple of 8.
     LongName { size: usize },
+}
+
+/// The first fields of a type.
+#[derive(Clone, Copy, Debug)]
+pub struct Type<'a> {
+    pub class: u64,
+    /// The class bits.
+    pub bits: u64,
+    pub size: u64,
+    /// The properties of a number, and nothing of other classes.
+    pub properties: &'a [u8],
+}
+
+/// What an attribute has behind its name.
+#[derive(Clone, Copy, Debug)]
+pub struct Attribute<'a> {
+    pub data_type: Type<'a>,
+    /// How many sizes there are, and their product.
+    pub sizes: u64,
+    pub elements: u128,
+    /// Where the value begins.
+    pub value: usize,
 }
 
 /// What the messages of a header show.
@@ -120,7 +142,7 @@ pub fn header(input: &Input, entries: &[Entry]) -> Found {
         // A field that cannot be read ends the message, here as in its readers.
         let end = match entry.kind {
             DATA_TYPE => scan.data_type(1).map(drop),
-            ATTRIBUTE => scan.attribute(),
+            ATTRIBUTE => scan.attribute().map(drop),
             _ => continue,
         };
         match end {
@@ -134,6 +156,11 @@ pub fn header(input: &Input, entries: &[Entry]) -> Found {
         }
     }
     found
+}
+
+/// The attribute whose body stands at a place, or nothing where its type or its space has no reading.
+pub fn attribute(input: &Input, body: usize) -> Option<Attribute<'_>> {
+    Scan::new(input, body).attribute()
 }
 
 struct Scan<'a> {
@@ -166,7 +193,7 @@ impl<'a> Scan<'a> {
         self.take(width).map(get)
     }
 
-    fn attribute(&mut self) -> Option<()> {
+    fn attribute(&mut self) -> Option<Attribute<'a>> {
         let version = self.number(1)?;
         self.take(1)?;
         let name_size = self.number(2)? as usize;
@@ -179,12 +206,17 @@ impl<'a> Scan<'a> {
             self.name_padding(name_size)?;
         }
         self.holder = Holder::Attribute(version);
-        let size = self.padded(version, |scan| scan.data_type(1))?;
-        let elements = self.padded(version, Scan::elements)?;
-        if u128::from(size) * elements >= 1 << 64 {
+        let data_type = self.padded(version, |scan| scan.data_type(1))?;
+        let (sizes, elements) = self.padded(version, Scan::elements)?;
+        if u128::from(data_type.size) * elements >= 1 << 64 {
             self.outside.get_or_insert(Outside::Elements);
         }
-        Some(())
+        Some(Attribute {
+            data_type,
+            sizes,
+            elements,
+            value: self.at,
+        })
     }
 
     fn name_padding(&mut self, name_size: usize) -> Option<()> {
@@ -204,8 +236,8 @@ impl<'a> Scan<'a> {
         Some(value)
     }
 
-    /// The size of a type at a level. One above the limit is read on all the same, for its forms.
-    fn data_type(&mut self, level: u32) -> Option<u64> {
+    /// A type at a level. One above the limit is read on all the same, for its forms.
+    fn data_type(&mut self, level: u32) -> Option<Type<'a>> {
         if level > LEVELS {
             self.outside.get_or_insert(Outside::TypeLevel);
         }
@@ -216,22 +248,28 @@ impl<'a> Scan<'a> {
         if (version != 1 && version != 3) || size > 63 {
             return None;
         }
+        let mut properties: &[u8] = &[];
         match class {
-            0 => drop(self.take(4)?),
-            1 => self.float()?,
+            0 => properties = self.take(4)?,
+            1 => properties = self.float()?,
             3 | 7 => {}
             6 => self.members(bits & 0xffff, version, size, level)?,
             9 => drop(self.data_type(level + 1)?),
             _ => return None,
         }
-        Some(size)
+        Some(Type {
+            class,
+            bits,
+            size,
+            properties,
+        })
     }
 
-    fn float(&mut self) -> Option<()> {
+    fn float(&mut self) -> Option<&'a [u8]> {
         const SINGLE: &[u8] = &[0, 0, 32, 0, 23, 8, 0, 23, 127, 0, 0, 0];
         const DOUBLE: &[u8] = &[0, 0, 64, 0, 52, 11, 0, 52, 255, 3, 0, 0];
         let fields = self.take(12)?;
-        (fields == SINGLE || fields == DOUBLE).then_some(())
+        (fields == SINGLE || fields == DOUBLE).then_some(fields)
     }
 
     fn members(&mut self, count: u64, version: u64, size: u64, level: u32) -> Option<()> {
@@ -279,8 +317,8 @@ impl<'a> Scan<'a> {
         Some(length + 1)
     }
 
-    /// The product of a dataspace's sizes.
-    fn elements(&mut self) -> Option<u128> {
+    /// How many sizes a dataspace has, and their product.
+    fn elements(&mut self) -> Option<(u64, u128)> {
         let version = self.number(1)?;
         let count = self.number(1)?;
         let flags = self.number(1)?;
@@ -295,7 +333,7 @@ impl<'a> Scan<'a> {
         if flags & 1 != 0 {
             (0..count).try_for_each(|_| self.size(true).map(drop))?;
         }
-        Some(elements)
+        Some((count, elements))
     }
 
     fn size(&mut self, maximum: bool) -> Option<u64> {

@@ -24,6 +24,12 @@ passes-header-requires-2 c κs = search needs
 enum-told-4 : tie.Need-enum-told-4
 enum-told-4 c = search needs
 
+passes-header-requires-3 : tie.Need-passes-header-requires-3
+passes-header-requires-3 c κs = search needs
+
+enum-told-5 : tie.Need-enum-told-5
+enum-told-5 c = search needs
+
 sums-requires : tie.Need-sums-requires
 sums-requires c κs = search needs
 
@@ -37,7 +43,10 @@ returns-3 : tie.Need-returns-3
 returns-3 c = rw (c .before .enum-told3 .given .1) (c .passes-header2 .ensures)
 
 returns-4 : tie.Need-returns-4
-returns-4 c = rw (c .before .enum-told4 .given .1) (c .sums .ensures)
+returns-4 c = rw (c .before .enum-told4 .given .1) (c .passes-header3 .ensures)
+
+returns-5 : tie.Need-returns-5
+returns-5 c = rw (c .before .enum-told5 .given .1) (c .sums .ensures)
 
 pub passes-spec : {M : Type 1} → statement M
 passes-spec =
@@ -50,8 +59,11 @@ passes-spec =
     enum-told-3
     passes-header-requires-2
     enum-told-4
+    passes-header-requires-3
+    enum-told-5
     sums-requires
     returns
     returns-2
     returns-3
-    returns-4)
+    returns-4
+    returns-5)

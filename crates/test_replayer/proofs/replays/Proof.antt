@@ -1,4 +1,4 @@
--- The report is compared, and must end what is expected.
+-- The text is compared, and must end what is expected.
 use Rattle.test_replayer.specs.Laws.{few-rows, answered}
 use borrow.Author.Needs.{needs}
 use Rattle.test_replayer.proofs.replays.Statement.{statement}
@@ -16,17 +16,17 @@ slice-aggregate-header-words c = search needs
 header-words-requires : tie.Need-header-words-requires
 header-words-requires c κs = search needs
 
-slice-aggregate-expect-report : tie.Need-slice-aggregate-expect-report
-slice-aggregate-expect-report c = search needs
+slice-aggregate-expect-text : tie.Need-slice-aggregate-expect-text
+slice-aggregate-expect-text c = search needs
 
-expect-report-requires : tie.Need-expect-report-requires
-expect-report-requires c κs = let h = few-rows _ (c .before .before .before .before .before .before .before .before .before .before .args .lead) _ _ (c .before .before .before .header-words .ensures) in search needs
+expect-text-requires : tie.Need-expect-text-requires
+expect-text-requires c κs = let h = few-rows _ (c .before .before .before .before .before .before .before .before .before .before .args .lead) _ _ (c .before .before .before .header-words .ensures) in search needs
 
 ends-requires : tie.Need-ends-requires
 ends-requires c κs = search needs
 
 returns : tie.Need-returns
-returns c = answered _ (c .before .before .before .before .before .before .before .before .before .before .before .before .args .lead) _ _ (c .before .before .before .before .before .header-words .ensures) _ _ _ (c .before .expect-report .ensures) (c .ends .ensures)
+returns c = answered _ (c .before .before .before .before .before .before .before .before .before .before .before .before .args .lead) _ _ (c .before .before .before .before .before .header-words .ensures) _ _ _ _ (c .before .expect-text .ensures) (c .ends .ensures)
 
 pub replays-spec : {M : Type 1} → statement M
 replays-spec =
@@ -36,7 +36,7 @@ replays-spec =
     cast-header-words-2
     slice-aggregate-header-words
     header-words-requires
-    slice-aggregate-expect-report
-    expect-report-requires
+    slice-aggregate-expect-text
+    expect-text-requires
     ends-requires
     returns)

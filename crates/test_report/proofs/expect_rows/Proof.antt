@@ -2,7 +2,7 @@
 use borrow.Author.Needs.{needs}
 use Rattle.test_report.specs.Follows.{Follows}
 use Rattle.test_report.specs.Report.{rowLines}
-use Rattle.test_report.specs.Laws.{rows-more}
+use Rattle.test_report.specs.Laws.{lines-more}
 use Rattle.row.specs.Rows.{firstRows}
 use native.Mathlib.Omega.{arith}
 use mathlib.Core.Path.{_≡_}
@@ -33,7 +33,7 @@ loop-less : tie.Need-loop-less Inv-loop μ-loop
 loop-less c = search needs
 
 loop-again : tie.Need-loop-again Inv-loop μ-loop
-loop-again c = (search needs, rw (rows-more, ← c .before .row-at .ensures) (then (c .before .before .before .loop .inv .1) (c .expect-row .ensures)))
+loop-again c = (search needs, rw (lines-more, ← c .before .row-at .ensures) (then (c .before .before .before .loop .inv .1) (c .expect-row .ensures)))
 
 returns : tie.Need-returns Inv-loop μ-loop
 returns c = let e : c .before .loop .i ≡ c .before .before .before .before .before .args .rows = omega arith in rw e at (c .before .loop .inv .1)

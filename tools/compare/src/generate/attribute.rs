@@ -5,7 +5,9 @@ use super::piece::Piece;
 use crate::input::{get, padding, put};
 
 /// Values up to this length are written out.
-const WRITTEN: u128 = 400;
+pub const WRITTEN: u128 = 400;
+/// How often an attribute of a numeric header is of one number, in thousandths.
+const NUMERIC: u64 = 900;
 /// Sizes and elements whose product is 1,048,576, one less and one more.
 const MANY: &[(u64, u64)] = &[(32, 32_768), (25, 41_943), (17, 61_681)];
 
@@ -49,6 +51,9 @@ impl Maker<'_> {
 
     /// The rest of an attribute. What fails here leaves it without a value.
     fn type_space_value(&mut self, piece: &mut Piece, version: u64) {
+        if self.numeric && self.random.rarely(NUMERIC) {
+            return self.one_number(piece, version);
+        }
         if self.random.rarely(5) {
             return self.many_numbers(piece, version);
         }
@@ -84,7 +89,7 @@ impl Maker<'_> {
     }
 
     /// The bytes of a field, padded to 8 in version 1.
-    fn padded(&mut self, rest: &mut Vec<u8>, field: &[u8], version: u64) {
+    pub fn padded(&mut self, rest: &mut Vec<u8>, field: &[u8], version: u64) {
         rest.extend(field);
         if version == 1 {
             let padding = self.bytes(padding(field.len()));
@@ -92,7 +97,7 @@ impl Maker<'_> {
         }
     }
 
-    fn elements(&self, data_space: &Piece, count: u64) -> u128 {
+    pub fn elements(&self, data_space: &Piece, count: u64) -> u128 {
         let width = usize::from(self.length_width);
         let start = if data_space.bytes[0] == 1 { 8 } else { 4 };
         let sizes = data_space.bytes[start..].chunks_exact(width);

@@ -44,9 +44,13 @@ impl Maker<'_> {
         self.around(file.resolve(), position)
     }
 
-    /// Bytes for layouts to point to.
+    /// Bytes for layouts to point to. Of numeric headers most end with the file, so that a value may
+    /// leave it.
     fn data(&mut self, file: &mut Piece) {
-        let length = self.random.pick(&[0, 8, 24, 32]);
+        let length = match self.numeric {
+            true => self.random.pick(&[0, 0, 0, 24]),
+            false => self.random.pick(&[0, 8, 24, 32]),
+        };
         let mut data = Piece::default();
         data.bytes = self.bytes(length);
         data.name(Place::Data);

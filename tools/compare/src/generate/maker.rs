@@ -12,6 +12,8 @@ pub struct Maker<'r> {
     /// Whether version 1 compounds and attributes are made more often than others, and sizes of
     /// bodies that are too small, so that it shows where a body ends.
     pub early: bool,
+    /// Whether most messages are attributes of one number, or almost.
+    pub numeric: bool,
     /// The smallest messages that a header has beside the others.
     pub crowd: u64,
     /// Faults that may still be made, and how often, in thousandths of the chances.
@@ -52,6 +54,7 @@ impl<'r> Maker<'r> {
             length_width,
             front: 0,
             early: false,
+            numeric: false,
             crowd: 0,
             faults,
             rate,
@@ -61,6 +64,14 @@ impl<'r> Maker<'r> {
     /// The same maker, of early forms or not.
     pub fn early(self, early: bool) -> Maker<'r> {
         Maker { early, ..self }
+    }
+
+    /// The same maker, of numeric attributes.
+    pub fn numeric(self) -> Maker<'r> {
+        Maker {
+            numeric: true,
+            ..self
+        }
     }
 
     /// A pick of the choices for early forms, or of the others.

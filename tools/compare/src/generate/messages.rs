@@ -3,7 +3,10 @@
 use super::maker::{Maker, UNDEFINED_RATE};
 use super::piece::{Piece, Place};
 use crate::address::all_ones;
+use crate::scan::ATTRIBUTE;
 
+/// How often a message of a numeric header is an attribute for that alone, in thousandths.
+const NUMERIC: u64 = 700;
 const OVERFULL: &[u64] = &[0xffff, 0x1_0000, 0x7fff_ffff, 0xffff_ffff];
 const CONTIGUOUS_LIMIT: u64 = 0x1000_0000;
 
@@ -13,6 +16,9 @@ impl Maker<'_> {
         const KINDS: &[u64] = &[1, 1, 2, 3, 3, 4, 5, 8, 8, 10, 11, 12, 12, 12, 12, 21, 0];
         const EARLY: &[u64] = &[3, 3, 12, 12, 12, 12, 1, 0];
         const UNKNOWN: &[u64] = &[6, 7, 9, 13, 14, 15, 17, 18, 19, 20, 22, 23, 255];
+        if self.numeric && self.random.rarely(NUMERIC) {
+            return ATTRIBUTE.into();
+        }
         if self.random.rarely(50) {
             return self.random.pick(UNKNOWN);
         }

@@ -7,6 +7,7 @@ mod header;
 pub mod large;
 mod maker;
 mod messages;
+pub mod numeric;
 mod piece;
 pub mod plain;
 mod sums;

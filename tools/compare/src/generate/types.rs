@@ -5,8 +5,9 @@ use super::piece::Piece;
 use crate::address::all_ones;
 use crate::input::padding;
 
-const SINGLE: [u8; 12] = [0, 0, 32, 0, 23, 8, 0, 23, 127, 0, 0, 0];
-const DOUBLE: [u8; 12] = [0, 0, 64, 0, 52, 11, 0, 52, 255, 3, 0, 0];
+/// The properties of floats.
+pub const SINGLE: [u8; 12] = [0, 0, 32, 0, 23, 8, 0, 23, 127, 0, 0, 0];
+pub const DOUBLE: [u8; 12] = [0, 0, 64, 0, 52, 11, 0, 52, 255, 3, 0, 0];
 /// Levels at and around the limit of 32.
 const DEEP: &[u64] = &[30, 31, 32, 32, 33, 34, 40];
 const LARGEST_SIZE: u64 = 1_000_000;
@@ -163,6 +164,11 @@ impl Maker<'_> {
     }
 
     pub fn data_space_of(&mut self, count: u64) -> Piece {
+        self.data_space_with(count, Maker::size)
+    }
+
+    /// A dataspace of so many sizes, each of which `size` makes.
+    pub fn data_space_with(&mut self, count: u64, mut size: impl FnMut(&mut Self) -> u64) -> Piece {
         let mut piece = Piece::default();
         let version = self.choose(&[1, 2, 2], &[0, 3, 255]);
         let noise = self.any_number() & 0xfc;
@@ -179,7 +185,7 @@ impl Maker<'_> {
         piece.bytes.extend(between);
         let count = count.min(8);
         for _ in 0..count {
-            let size = self.size();
+            let size = size(self);
             piece.put(size, self.length_width);
         }
         for _ in 0..if flags & 1 == 0 { 0 } else { count } {

@@ -162,6 +162,7 @@ fn row((message, entry): (&HeaderMessage, &Entry)) -> Row {
         body: entry.body as u64,
         name,
         part,
+        number: None,
     }
 }
 

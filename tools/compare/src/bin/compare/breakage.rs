@@ -9,6 +9,7 @@ use sides::port::{Outcome, PlainAnswer};
 use sides::rust::{self, published};
 
 use crate::address_breakage::ADDRESSES;
+use crate::number_breakage::NUMBERS;
 use crate::pair_breakage::PAIRS;
 use crate::plain_address_breakage::PLAIN_ADDRESSES;
 use crate::plain_breakage::PLAIN;
@@ -104,7 +105,8 @@ const HEADER: &[Breakage] = &[
 
 /// All that are of headers.
 pub fn of_headers() -> impl Iterator<Item = &'static Breakage> {
-    HEADER.iter().chain(SUMS).chain(ADDRESSES).chain(PAIRS)
+    let headers = HEADER.iter().chain(SUMS).chain(ADDRESSES);
+    headers.chain(NUMBERS).chain(PAIRS)
 }
 
 /// All that are of plain files.

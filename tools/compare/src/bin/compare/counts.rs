@@ -9,6 +9,7 @@ use sides::scan::Form;
 use sides::sum::{Closing, Of};
 
 use crate::judge::{Exclusion, FalseSum, Judged, OF_CONTINUATION, Untested, Verdict};
+use crate::numbers::Numbers;
 use crate::tables::Tables;
 
 /// The message types with fields, by name; the rest are skipped by their size.
@@ -134,6 +135,7 @@ pub struct Counts {
     pub differing: u64,
     pub beside: Beside,
     pub tables: Tables,
+    numbers: Numbers,
     /// What accepted headers hold.
     types: BTreeMap<u64, u64>,
     forms: BTreeMap<String, u64>,
@@ -162,6 +164,7 @@ impl Counts {
         }
         if !matches!(judged.verdict, Verdict::Panicked(_) | Verdict::Differs(_)) {
             self.tables.count(&judged.pair);
+            self.numbers.count(&judged.numbers);
         }
         match &judged.verdict {
             Verdict::Accepted(header) => {
@@ -245,6 +248,7 @@ impl Counts {
         }
         self.beside.print(name);
         self.tables.print(name);
+        self.numbers.print(name);
     }
 
     /// Prints the undefined addresses of headers that have a name.
@@ -289,6 +293,7 @@ impl Sum for Counts {
         add_all(&mut self.forms, other.forms);
         self.beside.add(other.beside);
         self.tables.add(other.tables);
+        self.numbers.add(other.numbers);
     }
 }
 

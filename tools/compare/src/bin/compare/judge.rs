@@ -10,13 +10,17 @@
 //!
 //! What is said of the port holds for its check and for its filling, each beside the Rust. Between the
 //! two the property of `Pair` must hold on every input, inside the comparison or not.
+//!
+//! No Rust knows the numbers of rows: on every input that the port accepts, inside the comparison or
+//! not, they must be what the tool reads from the bytes of the rows.
 
 use std::ops::RangeInclusive;
 
 use sides::address::{LAYOUT, Place, all_ones, numbers};
-use sides::answer::{Header, REFUSED};
+use sides::answer::{Header, REFUSED, Row};
 use sides::closing::{first_false, reached};
 use sides::input::{End, Input, get};
+use sides::number::{self, Number, Reading};
 use sides::pair::{Figures, Pair, Sizes};
 use sides::port::{self, PlainAnswer, Port};
 use sides::rust::{self, CONTINUATION, ENTRIES, Entry, mended, published};
@@ -78,6 +82,8 @@ pub struct Judged {
     /// The closings that were reached, in their order.
     pub closings: Vec<Closing>,
     pub found: Found,
+    /// What the bytes of the port's rows say of their numbers.
+    pub numbers: Vec<Reading>,
     /// The number that an undefined address asks for.
     pub demanded: Option<u64>,
     pub end: Option<End>,
@@ -153,6 +159,7 @@ fn unasked(port: &port::Outcome, pair: Pair) -> Judged {
         pair,
         closings: Vec::new(),
         found: Found::default(),
+        numbers: Vec::new(),
         demanded: None,
         end: None,
         otherwise: None,
@@ -167,6 +174,7 @@ pub fn against_rust(input: &Input, port: port::Outcome, pair: Pair) -> Judged {
     let last = mended.entries.last().filter(|_| refuses);
     let answers = Answers {
         input,
+        numbers: readings(input, &port),
         port,
         pair,
         published: published::rust_answer(input).outcome,
@@ -178,6 +186,16 @@ pub fn against_rust(input: &Input, port: port::Outcome, pair: Pair) -> Judged {
         entries: mended.entries,
     };
     answers.judged()
+}
+
+/// What the bytes of the port's rows say of their numbers.
+fn readings(input: &Input, port: &port::Outcome) -> Vec<Reading> {
+    let rows = match port {
+        port::Outcome::Read(header) => &header.rows[..],
+        port::Outcome::Refused(_) => &[],
+    };
+    let read = |row: &Row| number::read(input, row.kind, row.body);
+    rows.iter().map(read).collect()
 }
 
 /// The number that the port has to give where the last entry that a Rust began, before it refused,
@@ -207,6 +225,7 @@ struct Answers<'a> {
     mended: rust::Outcome,
     entries: Vec<Entry>,
     found: Found,
+    numbers: Vec<Reading>,
     demanded: Option<u64>,
     closings: Vec<Closing>,
     false_sum: Option<Closing>,
@@ -219,6 +238,7 @@ impl Answers<'_> {
             pair: self.pair,
             closings: self.closings,
             found: self.found,
+            numbers: self.numbers,
             demanded: self.demanded,
             end: self.input.end(),
             otherwise: (self.published != self.mended).then_some(self.published),
@@ -231,7 +251,7 @@ impl Answers<'_> {
             return Verdict::Panicked(self.text());
         }
         let unlike = self.published != self.mended && !self.found.is_mended();
-        if unlike || self.pair.fault().is_some() {
+        if unlike || self.pair.fault().is_some() || self.number_fault().is_some() {
             return Verdict::Differs(self.text());
         }
         // What stands behind a false sum the port never sees.
@@ -321,6 +341,24 @@ impl Answers<'_> {
         }
     }
 
+    /// The first row whose number is not what its bytes say, if any.
+    fn number_fault(&self) -> Option<String> {
+        let port::Outcome::Read(header) = &self.port else {
+            return None;
+        };
+        let rows = header.rows.iter().map(|row| row.number);
+        let mut rows = rows.zip(&self.numbers).enumerate();
+        let unlike = |(row, (ours, reading)): (usize, (Option<Number>, &Reading))| {
+            let (ours, bytes) = (ours?, reading.number());
+            (ours != bytes).then_some((row, ours, bytes))
+        };
+        let (row, ours, bytes) = rows.find_map(unlike)?;
+        Some(format!(
+            "row {row} has the number {},{}, and by its bytes {},{}\n",
+            ours.case, ours.bits, bytes.case, bytes.bits
+        ))
+    }
+
     /// Whether a number that ends the comparison is borne out by what the Rust read up to there.
     fn deserved(&self, number: u64, seen: &[Entry], found: &Found) -> bool {
         let file = &self.input.file;
@@ -347,6 +385,7 @@ impl Answers<'_> {
     /// What each says; the published Rust only where it says something else.
     fn text(&self) -> String {
         let mut text = format!("port:\n{}", port_text(&self.port));
+        text += &self.number_fault().unwrap_or_default();
         text += &pair_text(&self.pair);
         text += &format!("mended Rust:\n{}", rust_text(&self.mended));
         if self.published != self.mended {
@@ -417,9 +456,14 @@ pub fn pair_text(pair: &Pair) -> String {
     text
 }
 
+/// The report of a header, and its numbers.
+pub fn header_text(header: &Header) -> String {
+    text(&header.report()) + &header.numbers()
+}
+
 pub fn port_text(outcome: &port::Outcome) -> String {
     match outcome {
-        port::Outcome::Read(header) => text(&header.report()),
+        port::Outcome::Read(header) => header_text(header),
         port::Outcome::Refused(number) => format!("refused {number}\n"),
     }
 }

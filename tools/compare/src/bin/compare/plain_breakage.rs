@@ -5,7 +5,7 @@ use sides::address::{Address, all_ones};
 use sides::answer::SuperBlock;
 use sides::closing::super_block;
 use sides::plain::{as_version_2, version};
-use sides::port::PlainAnswer;
+use sides::port::{NUMBER, PlainAnswer, ROW_WORDS};
 use sides::rust::published::rust_super_block;
 use sides::sum::{Closing, Wrong};
 
@@ -90,6 +90,10 @@ pub const PLAIN: &[Breakage] = &[
     breakage("root-data", |_, a| a.root.object.data_length += 1),
     breakage("root-row", |_, a| a.root.table[3] ^= 1),
     breakage("root-last-word", |_, a| last_word(a)),
+    breakage("root-numbers-lost", |_, a| {
+        let rows = a.root.table.chunks_exact_mut(ROW_WORDS);
+        rows.for_each(|row| row[NUMBER..].fill(0));
+    }),
     breakage("root-of-refused", root_of_refused),
 ];
 

@@ -2,10 +2,10 @@
 //! filling alone.
 
 use sides::answer::SuperBlock;
-use sides::listing::{lines, refused};
+use sides::listing::{self, PART, lines, refused};
 use sides::pair::{Figures, LISTED_ROWS, TABLE_TOO_SMALL};
 use sides::plain::as_version_2;
-use sides::port::{PlainAnswer, check};
+use sides::port::{NUMBER, PlainAnswer, ROW_WORDS, check};
 use sides::rust::published::rust_super_block;
 
 use crate::breakage::Breakage;
@@ -80,6 +80,14 @@ pub const PLAIN_PAIRS: &[Breakage] = &[
     breakage("listing-of-refused", |_, a| {
         if a.pair.check.refused != 0 {
             a.listing = lines(&a.root);
+        }
+    }),
+    breakage("listing-of-numbers", |_, a| {
+        if listing::number(&a.listing) == 0 {
+            let mut root = a.root.clone();
+            let rows = root.table.chunks_exact_mut(ROW_WORDS);
+            rows.for_each(|row| row[PART] |= row[NUMBER].min(1));
+            a.listing = lines(&root);
         }
     }),
     breakage("listing-24-for-refused", |_, a| {

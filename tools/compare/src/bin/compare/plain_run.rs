@@ -5,8 +5,8 @@ use std::io::{self, Read};
 use std::time::Instant;
 
 use sides::address::Place;
-use sides::generate::crowded;
 use sides::generate::plain::plain_batch;
+use sides::generate::{crowded, numeric};
 use sides::input::digits;
 use sides::pair::{Sizes, TABLE_TOO_SMALL};
 use sides::real;
@@ -17,6 +17,9 @@ use crate::judge::{Judge, Verdict};
 use crate::plain_judge::{Behind, PlainExclusion, PlainJudged, PlainVerdict, plain_text};
 use crate::run::{keep, over_threads, print_answers, print_speed, sizes};
 use crate::shrink::shrink_plain;
+
+/// Shows the files that go with a batch, of a seed and a number.
+type Batch = fn(u64, u64, &mut dyn FnMut(&[u8]));
 
 #[derive(Default)]
 struct Plain {
@@ -152,8 +155,17 @@ impl Sum for Plain {
     }
 }
 
+/// Compares so many plain files, and those that go with them.
+pub fn all(arguments: &Arguments, count: u64) -> io::Result<bool> {
+    let plain = plain(arguments, count)?;
+    let further = |name, batch| further_files(arguments, count, name, batch);
+    let crowded = further("crowded plain files", crowded::plain_batch);
+    let numeric = further("numeric plain files", numeric::plain_batch);
+    Ok(plain && crowded && numeric)
+}
+
 /// Compares so many plain files from the seed beside the real ones, and prints the counts.
-pub fn plain(arguments: &Arguments, count: u64) -> io::Result<bool> {
+fn plain(arguments: &Arguments, count: u64) -> io::Result<bool> {
     let real = real::plain(&arguments.files)?;
     let start = Instant::now();
     let mut plain = Plain::default();
@@ -178,17 +190,17 @@ pub fn plain(arguments: &Arguments, count: u64) -> io::Result<bool> {
     Ok(plain.is_right())
 }
 
-/// Compares the crowded files that go with so many plain ones.
-pub fn crowded_files(arguments: &Arguments, count: u64) -> bool {
+/// Compares the files with a name that go with so many plain ones.
+fn further_files(arguments: &Arguments, count: u64, name: &str, batch: Batch) -> bool {
     let start = Instant::now();
     let mut plain = over_threads(arguments, count, &|number, judge, plain: &mut Plain| {
-        crowded::plain_batch(arguments.seed, number, &mut |file| {
+        batch(arguments.seed, number, &mut |file| {
             plain.count(file, &judge.plain_judged(file, Sizes::Many));
         });
     });
-    println!("\ncrowded plain files {}", plain.files);
+    println!("\n{name} {}", plain.files);
     print_speed(plain.files, "files", start);
-    plain.print_outcomes("crowded plain files");
+    plain.print_outcomes(name);
     plain.print_shown(arguments);
     plain.is_right()
 }

@@ -5,7 +5,7 @@ use std::sync::atomic::{AtomicU64, Ordering};
 use std::thread::Builder;
 use std::time::Instant;
 
-use sides::generate::{BATCH, batch, crowded, large};
+use sides::generate::{BATCH, batch, crowded, large, numeric};
 use sides::input::Input;
 use sides::pair::Sizes;
 use sides::real;
@@ -13,7 +13,7 @@ use sides::rust::STACK;
 
 use crate::arguments::Arguments;
 use crate::counts::{Counts, Sum, print_contents};
-use crate::judge::{Judge, Judged, Verdict, pair_text, published_text, sums_text, text};
+use crate::judge::{Judge, Judged, Verdict, header_text, pair_text, published_text, sums_text};
 use crate::plain_run;
 use crate::shrink::shrink;
 
@@ -24,6 +24,9 @@ const HEADERS_TO_PLAIN: u64 = 4;
 const KEPT: usize = 100;
 /// Of so many inputs of a batch one is filled with tables of many sizes.
 const MANY_SIZES: u64 = 4;
+
+/// Shows the headers that go with a batch, of a seed and a number.
+type Batch = fn(u64, u64, &mut dyn FnMut(&Input));
 
 #[derive(Default)]
 struct Headers {
@@ -87,10 +90,10 @@ pub fn run(arguments: &Arguments) -> io::Result<bool> {
     }
     let count = arguments.count.unwrap_or(COUNT);
     let headers = headers(arguments, count)?;
-    let crowded = crowded_headers(arguments, count);
-    let plain = plain_run::plain(arguments, count / HEADERS_TO_PLAIN)?;
-    let crowded_files = plain_run::crowded_files(arguments, count / HEADERS_TO_PLAIN);
-    Ok(headers && crowded && plain && crowded_files)
+    let crowded = further_headers(arguments, count, "crowded headers", crowded::batch);
+    let numeric = further_headers(arguments, count, "numeric headers", numeric::batch);
+    let files = plain_run::all(arguments, count / HEADERS_TO_PLAIN)?;
+    Ok(headers && crowded && numeric && files)
 }
 
 fn headers(arguments: &Arguments, count: u64) -> io::Result<bool> {
@@ -133,24 +136,21 @@ fn headers(arguments: &Arguments, count: u64) -> io::Result<bool> {
     Ok(headers.is_right() && shows_patch)
 }
 
-/// Compares the crowded headers that go with so many inputs.
-fn crowded_headers(arguments: &Arguments, count: u64) -> bool {
+/// Compares the headers with a name that go with so many inputs.
+fn further_headers(arguments: &Arguments, count: u64, name: &str, batch: Batch) -> bool {
     let start = Instant::now();
     let mut headers = over_threads(arguments, count, &|number, judge, headers: &mut Headers| {
-        crowded::batch(arguments.seed, number, &mut |input| {
+        batch(arguments.seed, number, &mut |input| {
             headers.count(input, &judge.judged(input));
         });
     });
     let counts = &headers.counts;
-    println!("\ncrowded headers {}", counts.headers);
+    println!("\n{name} {}", counts.headers);
     print_speed(counts.headers, "headers", start);
-    counts.print("crowded headers ");
-    println!(
-        "crowded headers accepted with blocks {}",
-        counts.headers_with_blocks
-    );
-    println!("panics of the Rust in crowded headers {}", counts.panicked);
-    println!("disagreements in crowded headers {}", counts.differing);
+    counts.print(&format!("{name} "));
+    println!("{name} accepted with blocks {}", counts.headers_with_blocks);
+    println!("panics of the Rust in {name} {}", counts.panicked);
+    println!("disagreements in {name} {}", counts.differing);
     headers.print_shown(arguments);
     headers.is_right()
 }
@@ -219,7 +219,7 @@ fn print_smallest(judge: &mut Judge, input: &Input) {
 pub fn print_answers(judged: &Judged) {
     match &judged.verdict {
         Verdict::Differs(text) | Verdict::Panicked(text) => return print!("{text}"),
-        Verdict::Accepted(header) => print!("port and mended Rust:\n{}", text(&header.report())),
+        Verdict::Accepted(header) => print!("port and mended Rust:\n{}", header_text(header)),
         Verdict::Refused(number) => {
             println!("port and mended Rust:\nrefused, by the port with {number}")
         }

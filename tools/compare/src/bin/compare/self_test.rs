@@ -1,12 +1,14 @@
-//! Whether the comparison finds what is wrong: every breakage of the port's answer must show.
+//! Whether the comparison finds what is wrong: every breakage of the port's answer must show, and the
+//! tool must read the numbers that were made by hand.
 
 use sides::generate::plain::plain_batch;
-use sides::generate::{batch, crowded};
+use sides::generate::{batch, crowded, numeric};
 use sides::input::Input;
 
 use crate::arguments::Arguments;
 use crate::breakage::{Breakage, of_headers, of_plain};
 use crate::judge::{Judge, Verdict};
+use crate::made_numbers;
 use crate::shrink::{shrink, shrink_plain};
 
 /// Inputs among which a breakage must show.
@@ -22,11 +24,11 @@ struct Found {
     by_breakage: bool,
 }
 
-/// Whether every breakage was found, and nothing where nothing is broken.
+/// Whether the numbers are read, every breakage was found, and nothing where nothing is broken.
 pub fn self_test(arguments: &Arguments) -> bool {
     let most = arguments.count.unwrap_or(COUNT);
     println!("seed {}, at most {most} inputs for each", arguments.seed);
-    let mut passed = true;
+    let mut passed = made_numbers::are_read();
     for breakage in of_headers() {
         passed &= report(
             breakage,
@@ -73,6 +75,7 @@ fn in_headers(seed: u64, most: u64, breakage: &'static Breakage) -> Option<Found
     let batch = |number, show: &mut dyn FnMut(&Input)| {
         batch(seed, number, &[], show);
         crowded::batch(seed, number, show);
+        numeric::batch(seed, number, show);
     };
     let (tried, input) = first(most, &batch, &mut broken)?;
     let smallest = shrink(&input, &mut broken);
@@ -90,6 +93,7 @@ fn in_plain(seed: u64, most: u64, breakage: &'static Breakage) -> Option<Found> 
     let batch = |number, show: &mut dyn FnMut(&[u8])| {
         plain_batch(seed, number, &[], show);
         crowded::plain_batch(seed, number, show);
+        numeric::plain_batch(seed, number, show);
     };
     let (tried, file) = first(most, &batch, &mut broken)?;
     let smallest = shrink_plain(&file, &mut broken);

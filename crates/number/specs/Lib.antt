@@ -1,0 +1,7 @@
+pub mod Forms
+pub mod Values
+pub mod Answers
+pub mod Facts
+pub mod BitFacts
+pub mod Kept
+pub mod Samples
