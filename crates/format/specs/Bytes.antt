@@ -12,6 +12,10 @@ unfoldable pub le : List ℕ → ℕ → ℕ → ℕ
 le s p zero = zero
 le s p (suc w) = getD s p 0 + 256 * le s (p + 1) w
 
+-- every number of the list is a byte
+abbrev pub AreBytes : List ℕ → Type 0
+AreBytes s = (i : ℕ) → getD s i 0 < 256
+
 -- the number in the w bytes from p, the highest byte first
 unfoldable pub be : List ℕ → ℕ → ℕ → ℕ
 be s p zero = zero

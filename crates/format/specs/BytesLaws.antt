@@ -12,7 +12,7 @@ use native.Mathlib.Nat.{add-zero, zero-add, mul-assoc}
 use lib.Pow.{pow-add, pow-pos, pow-mono}
 use borrow.Author.Tests.{eq-eqb, ne-eqb, eqb-true, eqb-false, lt-ltb, le-ltb, ltb-true, le-leb, lt-leb, leb-true, leb-false}
 use Rattle.format.specs.Bools.{and-left, and-right, and-none}
-use Rattle.format.specs.Bytes.{le, allOnes, Named, Trimmed, nameLength, textLength, toMultipleOf8}
+use Rattle.format.specs.Bytes.{AreBytes, le, allOnes, Named, Trimmed, nameLength, textLength, toMultipleOf8}
 use Rattle.format.specs.Format.{nameEnds}
 
 -- by whether a byte is zero
@@ -40,7 +40,7 @@ all-ones-positive w h e = omega (arith, pow-mono {i = 1} {j = 8 * w} (omega arit
 
 module _ (s : List ℕ) where
   -- a number of w bytes is below 2 ^ (8 * w)
-  pub le-below : ((i : ℕ) → getD s i 0 < 256) → (p w : ℕ) → le s p w < 2 ^ (8 * w)
+  pub le-below : AreBytes s → (p w : ℕ) → le s p w < 2 ^ (8 * w)
   unfolding le
   le-below b p zero = omega arith
   le-below b p (suc w) =
@@ -58,7 +58,7 @@ module _ (s : List ℕ) where
       let b : getD s p 0 ≡ 255 = rw first at (f 0 (omega arith)) in
       omega (arith, one-more w, pow-pos (8 * w))
 
-  pub all-ones-bytes : ((i : ℕ) → getD s i 0 < 256) → (p w : ℕ) → le s p w ≡ allOnes w → (i : ℕ) → i < w → getD s (p + i) 0 ≡ 255
+  pub all-ones-bytes : AreBytes s → (p w : ℕ) → le s p w ≡ allOnes w → (i : ℕ) → i < w → getD s (p + i) 0 ≡ 255
   unfolding le
   all-ones-bytes b p zero e i l = absurd (omega arith)
   all-ones-bytes b p (suc w) e zero l =

@@ -6,7 +6,7 @@ use native.Mathlib.Nat.{mul-assoc, add-mul, mul-le-mul-right}
 use native.Mathlib.Omega.{arith}
 use lib.ListN.{getD}
 use lib.Pow.{pow-add, shr-shr}
-use Rattle.format.specs.Bytes.{le, be, swap}
+use Rattle.format.specs.Bytes.{AreBytes, le, be, swap}
 
 abbrev bytePower : (w : ℕ) → 2 ^ (8 * suc w) ≡ 256 * 2 ^ (8 * w)
 bytePower w =
@@ -47,7 +47,7 @@ swap-split (suc m) w v =
     rw (n, swap, P, f, g, swap-split m w (v / 256), d) (omega arith)
 
 -- a number read lowest byte first, its bytes in the other order, is the number highest byte first
-pub swap-le : (s : List ℕ) → ((i : ℕ) → getD s i 0 < 256) → (p w : ℕ) → swap w (le s p w) ≡ be s p w
+pub swap-le : (s : List ℕ) → AreBytes s → (p w : ℕ) → swap w (le s p w) ≡ be s p w
 unfolding swap be le
 swap-le s b p zero = refl
 swap-le s b p (suc w) =

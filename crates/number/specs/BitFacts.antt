@@ -7,7 +7,7 @@ use lib.Dec.{T}
 use lib.IntN.{ℤ, pos, negsuc, _-ℤ_}
 use lib.Signed.{ltZ}
 use lib.Ieee as Ieee
-use lib.Ieee.{Float, nan, inf, fin, binary32, binary64, toBits, isNan}
+use lib.Ieee.{Float, nan, inf, fin, toBits, isNan}
 use lib.Ieee.Compare.{differs-from-itself, nan-differs}
 use mir.Syntax.{w64}
 use mir.Val.{SFits, toZ, ofZ}
@@ -52,13 +52,8 @@ positive x f t = go x f (toZ-ofZ w64 x f) (rw (toZ-ofZ w64 x f) at t)
     go (negsuc n) f e t = let z : _≡_ {A = ℕ} 0 1 = cc in absurd (omega arith)
 
 -- a float that differs from itself, and one that does not
-pub nan-single : (x : Float) → Ieee.ne x x ≡ true → 2143289344 ≡ toBits binary32 x
-unfolding toBits
-nan-single x e = sym (ap (toBits binary32) (differs-from-itself x (subst T (sym e) tt)))
-
-pub nan-double : (x : Float) → Ieee.ne x x ≡ true → 9221120237041090560 ≡ toBits binary64 x
-unfolding toBits
-nan-double x e = sym (ap (toBits binary64) (differs-from-itself x (subst T (sym e) tt)))
+pub nan-bits : (f : Ieee.Format) (x : Float) → Ieee.ne x x ≡ true → toBits f nan ≡ toBits f x
+nan-bits f x e = sym (ap (toBits f) (differs-from-itself x (subst T (sym e) tt)))
 
 pub no-nan : (x : Float) → Ieee.ne x x ≡ false → T (not (isNan x))
 unfolding isNan

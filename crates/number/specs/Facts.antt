@@ -5,10 +5,10 @@ use mathlib.Core.Bool.{Bool, true, false, not, _&&_}
 use mathlib.Core.List.{List}
 use native.Mathlib.Nat.{zero-add}
 use native.Mathlib.Omega.{arith}
-use lib.ListN.{length, getD}
+use lib.ListN.{length}
 use lib.Dec.{T, leb, eqb}
 use lib.IntN.{ℤ, pos, negsuc, _-ℤ_}
-use lib.Ieee.{binary32, binary64, nanBits}
+use lib.Ieee.{Format, nanBits, top, ones, hid}
 use lib.Ieee.Bits.{nanBits-above}
 use mir.Syntax.{w64}
 use mir.Val.{SFits, toZ, ofZ}
@@ -16,7 +16,7 @@ use mir.ValLaws.{toZ-pos, toZ-ofZ}
 use lib.Pow.{pow-pos}
 use borrow.Author.Tests.{lt-ltb, le-ltb, ne-eqb, eqb-true, leb-true, leb-false}
 use Rattle.format.specs.Bools.{and-left, and-right}
-use Rattle.format.specs.Bytes.{le}
+use Rattle.format.specs.Bytes.{AreBytes, le}
 use Rattle.format.specs.BytesLaws.{le-below}
 use Rattle.format.specs.Format.{Out, found, refused, number, done, read, pick}
 use Rattle.format.specs.Steps.{number-room}
@@ -51,18 +51,12 @@ made-low half v h l = toZ-pos w64 v (omega arith) ∙ sym (rw (lt-ltb v half h))
 pub made-high : (half v : ℕ) → half ≤ v → v < 2 * half → half ≤ 2 ^ 63 → toZ w64 (ofZ w64 (negsuc 0 -ℤ toZ w64 (half - 1 - (v - half)))) ≡ signedOf half v
 made-high half v h k l = toZ-ofZ w64 _ (made-fits half v h k l) ∙ made half v h k l ∙ rw (le-ltb v half h)
 
--- which bits are a NaN's, as the code tests it
-pub single-nan : (b : ℕ) → 2139095040 < b % 2147483648 → nanBits binary32 b ≡ true
-single-nan b h = nanBits-above binary32 b ∙ lt-ltb 2139095040 (b % 2147483648) h
+-- which bits are a NaN's, as the code tests it: without their sign they are above those of infinity
+pub above-infinity : (f : Format) (b : ℕ) → ones f * hid f < b % top f → nanBits f b ≡ true
+above-infinity f b h = nanBits-above f b ∙ lt-ltb (ones f * hid f) (b % top f) h
 
-pub single-plain : (b : ℕ) → b % 2147483648 ≤ 2139095040 → nanBits binary32 b ≡ false
-single-plain b h = nanBits-above binary32 b ∙ le-ltb 2139095040 (b % 2147483648) h
-
-pub double-nan : (b : ℕ) → 9218868437227405312 < b % 9223372036854775808 → nanBits binary64 b ≡ true
-double-nan b h = nanBits-above binary64 b ∙ lt-ltb 9218868437227405312 (b % 9223372036854775808) h
-
-pub double-plain : (b : ℕ) → b % 9223372036854775808 ≤ 9218868437227405312 → nanBits binary64 b ≡ false
-double-plain b h = nanBits-above binary64 b ∙ le-ltb 9218868437227405312 (b % 9223372036854775808) h
+pub up-to-infinity : (f : Format) (b : ℕ) → b % top f ≤ ones f * hid f → nanBits f b ≡ false
+up-to-infinity f b h = nanBits-above f b ∙ le-ltb (ones f * hid f) (b % top f) h
 
 pub plain-bits : {t : Bool} → t ≡ false → T (not t)
 plain-bits e = subst (λ (t : Bool). T (not t)) (sym e) tt
@@ -96,7 +90,7 @@ sized-whole forms.Single size h = rw h
 sized-whole forms.Double size h = rw h
 
 -- a number that was read is one of its bytes
-pub number-below : (s : List ℕ) → ((i : ℕ) → getD s i 0 < 256) → (w p v q : ℕ) → found v q ≡ read s (number w done) p → v < 2 ^ (8 * w)
+pub number-below : (s : List ℕ) → AreBytes s → (w p v q : ℕ) → found v q ≡ read s (number w done) p → v < 2 ^ (8 * w)
 number-below s b w p v q e = go (leb (p + w) (length s)) (e ∙ number-room s w p)
   where
     value : Out ℕ → ℕ
@@ -107,10 +101,11 @@ number-below s b w p v q e = go (leb (p + w) (length s)) (e ∙ number-room s w 
     go true f = let g : v ≡ le s p w = ap value f in omega (arith, le-below s b p w)
     go false f = let g : v ≡ 0 = ap value f in omega (arith, pow-pos (8 * w))
 
--- a form that a datatype has is of that datatype's size
-none-form : {P : Type 0} {form : NumberForm} → options.None ≡ options.Some form → P
-none-form e = let z : _≡_ {A = ℕ} 0 1 = cc in absurd (omega arith)
+-- none is no form
+pub no-form : {P : Type 0} {form : NumberForm} → options.None ≡ options.Some form → P
+no-form e = let z : _≡_ {A = ℕ} 0 1 = cc in absurd (omega arith)
 
+-- a form that a datatype has is of that datatype's size
 fixed-sized : (bits size offset precision : ℕ) (form : NumberForm) → fixedForm bits size offset precision ≡ options.Some form → Sized form size
 unfolding fixedForm
 fixed-sized bits size offset precision form e = go (wholeSize size && (eqb offset 0 && eqb precision (8 * size))) refl (isSigned bits) e
@@ -118,7 +113,7 @@ fixed-sized bits size offset precision form e = go (wholeSize size && (eqb offse
     go : (t : Bool) → (wholeSize size && (eqb offset 0 && eqb precision (8 * size))) ≡ t → (u : Bool) → pick t (options.Some (pick u forms.Signed forms.Unsigned)) options.None ≡ options.Some form → Sized form size
     go true e true f = let i : forms.Signed ≡ form = cc in rw (← i) (and-left (wholeSize size) (eqb offset 0 && eqb precision (8 * size)) e)
     go true e false f = let i : forms.Unsigned ≡ form = cc in rw (← i) (and-left (wholeSize size) (eqb offset 0 && eqb precision (8 * size)) e)
-    go false e u f = none-form f
+    go false e u f = no-form f
 
 float-size : (bits size precision w : ℕ) → isFloat bits size precision w ≡ true → size ≡ w
 unfolding isFloat
@@ -132,7 +127,7 @@ float-sized bits size precision form e = go (isFloat bits size precision 4) refl
         → pick t (options.Some forms.Single) (pick u (options.Some forms.Double) options.None) ≡ options.Some form → Sized form size
     go true e u d f = let i : forms.Single ≡ form = cc in rw (← i) (float-size bits size precision 4 e)
     go false e true d f = let i : forms.Double ≡ form = cc in rw (← i) (float-size bits size precision 8 d)
-    go false e false d f = none-form f
+    go false e false d f = no-form f
 
 pub form-sized : (d : DataType) (form : NumberForm) → numberForm d ≡ options.Some form → Sized form (d .size)
 unfolding numberForm
@@ -140,9 +135,9 @@ form-sized d form e = by-format (d .«class_and_version» % 16) (d .«class_bit_
   where
     by-class : (F : OptionForm) (size : ℕ) (t : Bool) → (F ≡ options.Some form → Sized form size) → pick t F options.None ≡ options.Some form → Sized form size
     by-class F size true h f = h f
-    by-class F size false h f = none-form f
+    by-class F size false h f = no-form f
 
     by-format : (class bits size : ℕ) (f : OptionDataFormat) → formOf class bits size f ≡ options.Some form → Sized form size
-    by-format class bits size optionFormats.None f = none-form f
+    by-format class bits size optionFormats.None f = no-form f
     by-format class bits size (optionFormats.Some (formats.Fixed offset precision)) f = by-class (fixedForm bits size offset precision) size (eqb class 0) (fixed-sized bits size offset precision form) f
     by-format class bits size (optionFormats.Some (formats.Float offset precision xl xs ml ms bias)) f = by-class (floatForm bits size precision) size (eqb class 1) (float-sized bits size precision form) f

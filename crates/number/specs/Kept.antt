@@ -4,14 +4,14 @@ use mathlib.Core.Path.{_≡_, refl, sym, _∙_, ap, subst}
 use mathlib.Core.Bool.{Bool, true, false, not}
 use mathlib.Core.List.{List}
 use native.Mathlib.Omega.{arith}
-use lib.ListN.{length, getD}
+use lib.ListN.{length}
 use lib.Dec.{T, ltb}
 use lib.IntN.{pos, negsuc}
 use lib.Ieee as Ieee
 use lib.Ieee.{Float, nan, inf, fin, binary32, binary64, ofBits, toBits, nanBits, isNan, top}
 use lib.Ieee.Bits.{toBits-ofBits, nanBits-is}
 use lib.Pow.{pow-add, pow-mono}
-use Rattle.format.specs.Bytes.{le, be}
+use Rattle.format.specs.Bytes.{AreBytes, le, be}
 use Rattle.format.specs.BytesLaws.{le-below}
 use Rattle.format.specs.OrderLaws.{swap-below, swap-le}
 use Rattle.format.specs.Format.{bind, pick, Stands}
@@ -52,23 +52,20 @@ twice-half w h =
 size-below : (w : ℕ) → w ≤ 8 → 2 ^ (8 * w) ≤ 2 ^ 64
 size-below w h = let m : 8 * w ≤ 64 = omega arith in pow-mono {i = 8 * w} {j = 64} m
 
+-- what holds of a number that is held by its bits, and of one that is a float
+held-or-float : (t : Bool) {x y : Number} (P : Number → Type 0) → (t ≡ true → P x) → (t ≡ false → P y) → P (pick t x y)
+held-or-float true P f g = f refl
+held-or-float false P f g = g refl
+
 -- a pattern that is no NaN's: the float of it has it
 float-kept : (f : Ieee.Format) (b : ℕ) → b < 2 * top f → nanBits f b ≡ false → toBits f (ofBits f b) ≡ b
 float-kept f b h e = toBits-ofBits f b h (subst (λ (t : Bool). T (not t)) (sym e ∙ nanBits-is f b) tt)
 
 single-bits : (b : ℕ) → b < 2 ^ 32 → numberBits (singleOf b) ≡ b
-single-bits b h = go (nanBits binary32 b) refl
-  where
-    go : (t : Bool) → nanBits binary32 b ≡ t → numberBits (pick t (numbers.SingleNan b) (numbers.Single (ofBits binary32 b))) ≡ b
-    go true e = refl
-    go false e = float-kept binary32 b h e
+single-bits b h = held-or-float (nanBits binary32 b) (λ n. numberBits n ≡ b) (λ e. refl) (float-kept binary32 b h)
 
 double-bits : (b : ℕ) → b < 2 ^ 64 → numberBits (doubleOf b) ≡ b
-double-bits b h = go (nanBits binary64 b) refl
-  where
-    go : (t : Bool) → nanBits binary64 b ≡ t → numberBits (pick t (numbers.DoubleNan b) (numbers.Double (ofBits binary64 b))) ≡ b
-    go true e = refl
-    go false e = float-kept binary64 b h e
+double-bits b h = held-or-float (nanBits binary64 b) (λ n. numberBits n ≡ b) (λ e. refl) (float-kept binary64 b h)
 
 signed-bits : (w v : ℕ) → wholeSize w ≡ true → v < 2 ^ (8 * w) → twos (signedOf (2 ^ (8 * w - 1)) v) ≡ formBits forms.Signed w v
 signed-bits w v e h = go (ltb v (2 ^ (8 * w - 1))) refl
@@ -84,16 +81,8 @@ signed-bits w v e h = go (ltb v (2 ^ (8 * w - 1))) refl
 pub number-case : (form : NumberForm) (size v : ℕ) → numberCase (numberOf form size v) ≡ formCase form
 number-case forms.Unsigned size v = refl
 number-case forms.Signed size v = refl
-number-case forms.Single size v = go (nanBits binary32 v)
-  where
-    go : (t : Bool) → numberCase (pick t (numbers.SingleNan v) (numbers.Single (ofBits binary32 v))) ≡ 3
-    go true = refl
-    go false = refl
-number-case forms.Double size v = go (nanBits binary64 v)
-  where
-    go : (t : Bool) → numberCase (pick t (numbers.DoubleNan v) (numbers.Double (ofBits binary64 v))) ≡ 4
-    go true = refl
-    go false = refl
+number-case forms.Single size v = held-or-float (nanBits binary32 v) (λ n. numberCase n ≡ 3) (λ _. refl) (λ _. refl)
+number-case forms.Double size v = held-or-float (nanBits binary64 v) (λ n. numberCase n ≡ 4) (λ _. refl) (λ _. refl)
 
 pub number-bits : (form : NumberForm) (size v : ℕ) → Sized form size → v < 2 ^ (8 * size) → numberBits (numberOf form size v) ≡ formBits form size v
 number-bits forms.Unsigned size v e h = refl
@@ -121,18 +110,10 @@ nan-is f b e = go (ofBits f b) (sym (nanBits-is f b) ∙ e)
 
 -- the float is that of IEEE 754 with these bits
 pub single-value : (b : ℕ) → IsFloat (singleOf b) (ofBits binary32 b)
-single-value b = go (nanBits binary32 b) refl
-  where
-    go : (t : Bool) → nanBits binary32 b ≡ t → IsFloat (pick t (numbers.SingleNan b) (numbers.Single (ofBits binary32 b))) (ofBits binary32 b)
-    go true e = nan-is binary32 b e
-    go false e = refl
+single-value b = held-or-float (nanBits binary32 b) (λ n. IsFloat n (ofBits binary32 b)) (nan-is binary32 b) (λ _. refl)
 
 pub double-value : (b : ℕ) → IsFloat (doubleOf b) (ofBits binary64 b)
-double-value b = go (nanBits binary64 b) refl
-  where
-    go : (t : Bool) → nanBits binary64 b ≡ t → IsFloat (pick t (numbers.DoubleNan b) (numbers.Double (ofBits binary64 b))) (ofBits binary64 b)
-    go true e = nan-is binary64 b e
-    go false e = refl
+double-value b = held-or-float (nanBits binary64 b) (λ n. IsFloat n (ofBits binary64 b)) (nan-is binary64 b) (λ _. refl)
 
 -- a number has the bytes of its size
 pub number-room : (s : List ℕ) (form : NumberForm) (bits size p q : ℕ) (n : Number) → Stands s (numberValue form bits size) p q n → (p + size ≤ length s) × (p + size ≡ q)
@@ -140,7 +121,7 @@ unfolding numberValue element bind
 number-room s form bits size p q n h = (h .0, h .1 .0)
 
 -- in a file of bytes
-module _ (s : List ℕ) (b : (i : ℕ) → getD s i 0 < 256) where
+module _ (s : List ℕ) (b : AreBytes s) where
   pub stored-below : (bits p w : ℕ) → stored s bits p w < 2 ^ (8 * w)
   stored-below bits p w = go (bigEndian bits)
     where

@@ -8,7 +8,7 @@ use native.Mathlib.Omega.{arith}
 use lib.Dec.{eqb, ltb, leb}
 use lib.ListN.{length, getD, take}
 use borrow.Author.Tests.{eqb-true, eqb-false, eq-eqb, ltb-true, ltb-false, leb-false}
-use Rattle.format.specs.Bytes.{le, Trimmed}
+use Rattle.format.specs.Bytes.{AreBytes, le, Trimmed}
 use Rattle.format.specs.BytesLaws.{by-le}
 use Rattle.format.specs.Format.{Format, done, number, skip, here, Stands, bind, pick}
 use Rattle.format.specs.Standing.{stands-bind, stands-check, bind-stands}
@@ -22,6 +22,7 @@ use Rattle.number.specs.declared.OptionForm.{OptionForm}
 use Rattle.number.specs.declared.OptionForm.the-variants as options
 use Rattle.number.specs.Forms.{numberForm}
 use Rattle.number.specs.Values.{numberOf, numberValue}
+use Rattle.number.specs.Facts.{no-form}
 use Rattle.number.specs.Kept.{stored, number-room, number-stands}
 use Rattle.ohdr_datatype.specs.DataTypes.{dataType, typeLevels}
 use Rattle.ohdr_dataspace.specs.DataSpaces as spaces
@@ -37,10 +38,10 @@ use Rattle.standard_datatype.specs.Differences.{TypeDiffers}
 use Rattle.standard_datatype.specs.Ties.{datatype-tied}
 use Rattle.standard_messages.specs.Dataspaces.{SameDataspace, dataspace-tied}
 use Rattle.standard_attribute.specs.Differences.{ElementsDiffer, scalar-with-sizes, null, ContentsDiffer, in-datatype, other-datatype-size, other-dataspace-size, other-elements, variable-length-elements, long-data}
-use Rattle.standard_attribute.specs.SameNumbers.{AreBytes, HasNumber, SameNumber}
-use Rattle.standard_attribute.specs.NumberForms.{FormIs, form-has, form-said, number-formed, number-class, number-same, no-form}
+use Rattle.standard_attribute.specs.SameNumbers.{HasNumber, SameNumber}
+use Rattle.standard_attribute.specs.NumberForms.{FormIs, form-has, form-said, number-formed, number-class, number-same}
 use Rattle.standard_attribute.specs.Same.{PaddedText, SameValue}
-use Rattle.standard_attribute.specs.TextValues.{sizesOf}
+use Rattle.standard_attribute.specs.ReadValues.{sizesOf}
 
 -- a text that is ended by zeros has the length that is left without them
 pub padded-length : (s : List ℕ) (p m l n : ℕ) → Trimmed s p m l → PaddedText s (record { position = p; length = m }) n → l ≡ n

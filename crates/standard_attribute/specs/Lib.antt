@@ -2,12 +2,12 @@ pub mod Differences
 pub mod SameNumbers
 pub mod NumberForms
 pub mod Same
-pub mod TextValues
+pub mod ReadValues
 pub mod Contents
 pub mod Ties
 pub mod Rules
 pub mod ReadSpaces
 pub mod ReadElements
 pub mod Values
-pub mod TextSamples
+pub mod ValueSamples
 pub mod Samples

@@ -10,6 +10,7 @@ use lib.Dec.{eqb, leb}
 use lib.Ieee as Ieee
 use lib.Ieee.{binary32, binary64, ofBits, ofFields, top, emax}
 use borrow.Author.Tests.{eqb-true, eqb-false, eq-eqb, le-leb, lt-leb, not-true}
+use Rattle.format.specs.Bytes.{AreBytes}
 use Rattle.format.specs.Bits.{bit}
 use Rattle.format.specs.Bools.{and-left, and-right}
 use Rattle.format.specs.BytesLaws.{by-le}
@@ -25,15 +26,15 @@ use Rattle.number.specs.declared.OptionForm.{OptionForm}
 use Rattle.number.specs.declared.OptionForm.the-variants as options
 use Rattle.number.specs.Forms.{isSigned, wholeSize, fixedForm, isFloat, floatForm, formOf, numberForm}
 use Rattle.number.specs.Values.{signedOf, numberOf}
-use Rattle.number.specs.Facts.{some-size, small-size}
+use Rattle.number.specs.Facts.{some-size, small-size, no-form}
 use Rattle.records.specs.Numbers.{numberBits}
 use Rattle.number.specs.Kept.{stored-below, twice-half, number-case, number-bits, IsFloat, single-value, double-value}
 use Rattle.standard.specs.Datatypes.{DatatypeHeader, class, FixedPoint, FloatingPoint, Datatype, datatype, headerOf, Properties, fixed-point, floating-point, no-properties, members, parent-type}
 use Rattle.standard.specs.DatatypeRules.{bits}
-use Rattle.standard.specs.Numbers.{elementBits}
+use Rattle.standard.specs.Numbers.{elementBits, exponent, mantissa}
 use Rattle.standard_datatype.specs.ReadTypes.{single, double, ReadFloat}
 use Rattle.standard_datatype.specs.Same.{formatOf, OfClass, propertiesOf, SameHeader}
-use Rattle.standard_attribute.specs.SameNumbers.{AreBytes, WholeNumber, FloatNumber, HasNumber, unsigned, signed, SameFloat, SameNumber}
+use Rattle.standard_attribute.specs.SameNumbers.{WholeNumber, FloatNumber, HasNumber, unsigned, signed, SameFloat, SameNumber}
 
 -- the form, by the standard's fields
 abbrev theirForm : Datatype → OptionForm
@@ -55,9 +56,6 @@ form-has (is-unsigned w e) = w
 form-has (is-signed w e) = w
 form-has (is-single w e) = inl w
 form-has (is-double w e) = inr w
-
-pub no-form : {P : Type 0} {form : NumberForm} → options.None ≡ options.Some form → P
-no-form e = let z : _≡_ {A = ℕ} 0 1 = cc in absurd (omega arith)
 
 whole-sizes : (size : ℕ) → wholeSize size ≡ true → (size ≡ 1) ⊎ ((size ≡ 2) ⊎ ((size ≡ 4) ⊎ (size ≡ 8)))
 unfolding wholeSize
@@ -208,19 +206,19 @@ abbrev signAt : Ieee.Format → ℕ
 signAt binary32 = 31
 signAt binary64 = 63
 
-abbrev mantissaSize : Ieee.Format → ℕ
-mantissaSize binary32 = 23
-mantissaSize binary64 = 52
+abbrev propertiesIn : Ieee.Format → FloatingPoint
+propertiesIn binary32 = single
+propertiesIn binary64 = double
 
-abbrev exponentSize : Ieee.Format → ℕ
-exponentSize binary32 = 8
-exponentSize binary64 = 11
+same-bias : (f : Ieee.Format) → propertiesIn f .exponent-bias ≡ emax f
+same-bias binary32 = refl
+same-bias binary64 = refl
 
 -- a number below twice t is t or more where its bit is set
 top-bit : (t b : ℕ) → (t ≤ b → b / t % 2 ≡ 1) → (b < t → b / t % 2 ≡ 0) → leb t b ≡ eqb (b / t % 2) 1
 top-bit t b f g = by-le t b (λ l. rw (le-leb t b l, f l)) (λ l. rw (lt-leb t b l, g l))
 
-float-fields : (f : Ieee.Format) (b : ℕ) → b < 2 * top f → ofBits f b ≡ ofFields f (eqb (bits b (signAt f) 1) 1) (bits b (mantissaSize f) (exponentSize f)) (bits b 0 (mantissaSize f))
+float-fields : (f : Ieee.Format) (b : ℕ) → b < 2 * top f → ofBits f b ≡ ofFields f (eqb (bits b (signAt f) 1) 1) (exponent (propertiesIn f) b) (mantissa (propertiesIn f) b)
 unfolding ofBits
 float-fields binary32 b h =
     let s = top-bit 2147483648 b (λ l. omega arith) (λ l. omega arith) in
@@ -248,13 +246,12 @@ module _ (s : List ℕ) (b : AreBytes s) where
   some-bytes h f w = some-size (whole-fits (h .size) (w .size))
 
   float-same : (format : Ieee.Format) (h : DatatypeHeader) (f : FloatingPoint) (e : ℕ) (n : Number) → numberBits n ≡ e → e < 2 * top format → IsFloat n (ofBits format e)
-      → bits (h .class-bit-field) 8 8 ≡ signAt format → f .exponent-location ≡ mantissaSize format → f .exponent-size ≡ exponentSize format → f .mantissa-location ≡ 0 → f .mantissa-size ≡ mantissaSize format
-      → f .exponent-bias ≡ emax format → SameFloat format h f e n
-  float-same format h f e n d l v a xl xs ml ms bias =
+      → bits (h .class-bit-field) 8 8 ≡ signAt format → f ≡ propertiesIn format → SameFloat format h f e n
+  float-same format h f e n d l v a i =
       record {
         stored-bits = d;
-        value = rw (a, xl, xs, ml, ms, ← float-fields format e l) v;
-        exponent-bias = bias;
+        value = rw (a, i, ← float-fields format e l) v;
+        exponent-bias = rw i (same-bias format);
       }
 
   pub number-same : (form : NumberForm) (x : Datatype) (p : ℕ) → FormIs form x → SameNumber s x p (numberOf form (headerOf x .size) (elementBits s (headerOf x) p))
@@ -263,19 +260,9 @@ module _ (s : List ℕ) (b : AreBytes s) where
       signed {z = signedOf (2 ^ (8 * h .size - 1)) (elementBits s h p)} e (rw (e, whole-bits h f p w, w .bit-precision, ← twice-half (h .size) (some-bytes h f w)))
   number-same form x p (is-single {h = h} {f = f} w e) =
       let v = elementBits s h p in
-      let l = wide (h .size) 4 v (w .size) (element-below h p) in
-      inl (
-        w .size,
-        number-case forms.Single (h .size) v,
-        float-same binary32 h f v _ (number-bits forms.Single (h .size) v (w .size) (element-below h p)) l (single-value v) (w .sign-location)
-            (ap (λ (g : FloatingPoint). g .exponent-location) e) (ap (λ (g : FloatingPoint). g .exponent-size) e) (ap (λ (g : FloatingPoint). g .mantissa-location) e) (ap (λ (g : FloatingPoint). g .mantissa-size) e) (ap (λ (g : FloatingPoint). g .exponent-bias) e),
-      )
+      let b = element-below h p in
+      inl (w .size, number-case forms.Single (h .size) v, float-same binary32 h f v _ (number-bits forms.Single (h .size) v (w .size) b) (wide (h .size) 4 v (w .size) b) (single-value v) (w .sign-location) e)
   number-same form x p (is-double {h = h} {f = f} w e) =
       let v = elementBits s h p in
-      let l = wide (h .size) 8 v (w .size) (element-below h p) in
-      inr (
-        w .size,
-        number-case forms.Double (h .size) v,
-        float-same binary64 h f v _ (number-bits forms.Double (h .size) v (w .size) (element-below h p)) l (double-value v) (w .sign-location)
-            (ap (λ (g : FloatingPoint). g .exponent-location) e) (ap (λ (g : FloatingPoint). g .exponent-size) e) (ap (λ (g : FloatingPoint). g .mantissa-location) e) (ap (λ (g : FloatingPoint). g .mantissa-size) e) (ap (λ (g : FloatingPoint). g .exponent-bias) e),
-      )
+      let b = element-below h p in
+      inr (w .size, number-case forms.Double (h .size) v, float-same binary64 h f v _ (number-bits forms.Double (h .size) v (w .size) b) (wide (h .size) 8 v (w .size) b) (double-value v) (w .sign-location) e)

@@ -29,7 +29,7 @@ use Rattle.standard.specs.Dataspaces.{Stored, not-stored, stored, storedSizes, 
 use Rattle.standard.specs.Attributes.{product, elements}
 use Rattle.standard_messages.specs.Dataspaces.{SameDataspace, dataspace-tied}
 use Rattle.standard_attribute.specs.Differences.{ElementsDiffer}
-use Rattle.standard_attribute.specs.TextValues.{sizesOf, EachStored, ReadSpace}
+use Rattle.standard_attribute.specs.ReadValues.{sizesOf, EachStored, ReadSpace}
 use Rattle.standard_attribute.specs.Contents.{elements-by, elements-same}
 
 -- what the port tests of one size

@@ -3,7 +3,7 @@ use Prim.Native.Nat.{ℕ, _+_, _≤_, _<_}
 use mathlib.Core.Path.{_≡_}
 use mathlib.Core.List.{List}
 use lib.ListN.{getD}
-use Rattle.format.specs.Bytes.{Trimmed}
+use Rattle.format.specs.Bytes.{AreBytes, Trimmed}
 use Rattle.format.specs.Format.{Stands}
 use Rattle.records.specs.declared.Part.{Part}
 use Rattle.records.specs.declared.Number.{Number}
@@ -16,7 +16,7 @@ use Rattle.standard.specs.DatatypeRules.{Each}
 use Rattle.standard.specs.AttributeRules.{NullTerminated}
 use Rattle.standard_datatype.specs.Same.{ScalarMembers}
 use Rattle.standard.specs.Attributes.{Sizes1, sizes1, Sizes3, sizes3, Described, elements, Attribute, of-version-1, of-version-3}
-use Rattle.standard_attribute.specs.SameNumbers.{AreBytes, HasNumber, SameNumber}
+use Rattle.standard_attribute.specs.SameNumbers.{HasNumber, SameNumber}
 
 -- a part of the file is the bytes of a field, less the zeros at their end
 pub record Less (s : List ℕ) (part : Part) (field : Bytes) : Type 0 where

@@ -1,9 +1,8 @@
 -- Which datatypes of the standard have a number, and which number it is by the tables of their class. Assumes nothing: these are definitions.
-use Prim.Native.Nat.{ℕ, _-_, _*_, _<_}
+use Prim.Native.Nat.{ℕ, _-_, _*_}
 use mathlib.Core.Path.{_≡_}
 use mathlib.Core.Logic.{_⊎_}
 use mathlib.Core.List.{List}
-use lib.ListN.{getD}
 use lib.Dec.{eqb}
 use lib.IntN.{ℤ, pos}
 use lib.Ieee as Ieee
@@ -15,10 +14,6 @@ use Rattle.number.specs.Kept.{IsFloat}
 use Rattle.standard.specs.Datatypes.{DatatypeHeader, class, FixedPoint, FloatingPoint, Datatype, datatype, fixed-point, floating-point, no-properties, members, parent-type}
 use Rattle.standard.specs.DatatypeRules.{bits}
 use Rattle.standard.specs.Numbers.{elementBits, fixedPointValue, signBit, exponent, mantissa}
-
--- a file is a list of bytes
-abbrev pub AreBytes : List ℕ → Type 0
-AreBytes s = (i : ℕ) → getD s i 0 < 256
 
 -- The forms that have a number; every other has none (docs/DIFFERENCES.md, 57). Fixed-point: all bits of 1, 2, 4 or 8 bytes.
 pub record WholeNumber (h : DatatypeHeader) (f : FixedPoint) : Type 0 where

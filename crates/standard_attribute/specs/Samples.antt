@@ -16,7 +16,7 @@ use Rattle.standard.specs.Versions.{byVersion, marked}
 use Rattle.standard.specs.Datatypes.{datatypeHeader, properties, datatypeOf, datatypeMessage}
 use Rattle.standard.specs.Dataspaces.{storedSizes, dataspace1, dataspace2, dataspaceMessage}
 use Rattle.standard.specs.Attributes.{sizes1, sizes3, sized, described, product, attribute1, attribute3, attributeMessage}
-use Rattle.standard_attribute.specs.TextValues.{dataOf}
+use Rattle.standard_attribute.specs.ReadValues.{dataOf}
 
 -- lengths of 2 bytes
 abbrev state : State

@@ -10,7 +10,7 @@ use lib.Dec.{eqb}
 use lib.ListN.{length}
 use borrow.Author.Tests.{eqb-true, ne-eqb, lt-ltb, le-leb}
 use Rattle.format.specs.Bits.{bit}
-use Rattle.format.specs.Bytes.{le, textLength, toMultipleOf8}
+use Rattle.format.specs.Bytes.{AreBytes, le, textLength, toMultipleOf8}
 use Rattle.format.specs.BytesLaws.{trimmed-found}
 use Rattle.format.specs.Format.{Format, done, refuse, skip, here, bind, pick, Stands}
 use Rattle.format.specs.Laws.{unique}
@@ -37,11 +37,10 @@ use Rattle.standard.specs.Versions.{byVersion, marked}
 use Rattle.standard.specs.Datatypes.{headerOf, datatypeMessage}
 use Rattle.standard.specs.Dataspaces.{dataspaceMessage}
 use Rattle.standard.specs.Attributes.{Sizes1, sizes1, Sizes3, sizes3, sized, Described, described, elements, elementSize, rawSize, Attribute1, attribute1, Attribute3, attribute3, Attribute, of-version-1, of-version-3, attributeMessage}
-use Rattle.standard_attribute.specs.TextValues.{ReadSpace, TextDescribed, TextValue, NumberDescribed, NumberValue, TextIs, NumberIs, ValueStands, nameSizeOf, describedOf, nameOf, dataOf}
+use Rattle.standard_attribute.specs.ReadValues.{ReadSpace, TextDescribed, TextValue, NumberDescribed, NumberValue, TextIs, NumberIs, ValueStands, nameSizeOf, describedOf, nameOf, dataOf}
 use Rattle.standard_attribute.specs.Ties.{ourName, same-name}
 use Rattle.standard_attribute.specs.ReadSpaces.{space-read}
 use Rattle.standard_attribute.specs.ReadElements.{elementType, string-read, number-read}
-use Rattle.standard_attribute.specs.SameNumbers.{AreBytes}
 use Rattle.standard_attribute.specs.NumberForms.{form-said, number-formed, number-same, number-class, has-class}
 use Rattle.standard_attribute.specs.Differences.{ElementsDiffer}
 

@@ -8,6 +8,7 @@ use mathlib.Core.List.{List, [], _∷_}
 use native.Mathlib.Omega.{arith}
 use lib.Dec.{eqb}
 use borrow.Author.Tests.{eqb-true, eqb-false}
+use Rattle.format.specs.Bytes.{AreBytes}
 use Rattle.format.specs.Format.{Format, done, bind, pick, Stands}
 use Rattle.format.specs.Standing.{stands-bind}
 use Rattle.records.specs.declared.OptionPart.{OptionPart}
@@ -49,8 +50,8 @@ use Rattle.standard_datatype.specs.Same.{SameType, HeaderStood}
 use Rattle.standard_datatype.specs.Ties.{datatype-tied, header-fields-tied}
 use Rattle.standard_attribute.specs.Differences.{AttributeDiffers}
 use Rattle.standard_attribute.specs.Same.{Less, SameAttribute, NameStood}
-use Rattle.standard_attribute.specs.SameNumbers.{AreBytes, SameNumber}
-use Rattle.standard_attribute.specs.TextValues.{TextValue, NumberValue, describedOf, dataOf}
+use Rattle.standard_attribute.specs.SameNumbers.{SameNumber}
+use Rattle.standard_attribute.specs.ReadValues.{TextValue, NumberValue, describedOf, dataOf}
 use Rattle.standard_attribute.specs.Ties.{attribute-tied, name-tied}
 use Rattle.standard_attribute.specs.Values.{text-value, number-value, value-is-read}
 

@@ -7,7 +7,7 @@ use native.Mathlib.Omega.{arith}
 use lib.ListN.{getD}
 use lib.Dec.{eqb}
 use borrow.Author.Tests.{eq-eqb, eqb-true}
-use Rattle.format.specs.Bytes.{le, allOnes}
+use Rattle.format.specs.Bytes.{AreBytes, le, allOnes}
 use Rattle.format.specs.BytesLaws.{bytes-all-ones, all-ones-bytes}
 use Rattle.format.specs.Format.{bind, pick, done}
 use Rattle.records.specs.declared.Address.{Address}
@@ -37,7 +37,7 @@ module _ (file : List ℕ) (p w : ℕ) where
   pub undefined-bits : ((i : ℕ) → i < w → getD file (p + i) 0 ≡ 255) → addressOf w (le file p w) ≡ addresses.Undefined
   undefined-bits h = rw (eq-eqb _ _ (bytes-all-ones file p w h))
 
-  pub bits-undefined : ((i : ℕ) → getD file i 0 < 256) → addressOf w (le file p w) ≡ addresses.Undefined → (i : ℕ) → i < w → getD file (p + i) 0 ≡ 255
+  pub bits-undefined : AreBytes file → addressOf w (le file p w) ≡ addresses.Undefined → (i : ℕ) → i < w → getD file (p + i) 0 ≡ 255
   bits-undefined b = go (eqb (le file p w) (allOnes w)) refl
     where
       go : (t : Bool) → eqb (le file p w) (allOnes w) ≡ t → pick t addresses.Undefined (addresses.Number (le file p w)) ≡ addresses.Undefined → (i : ℕ) → i < w → getD file (p + i) 0 ≡ 255

@@ -1,5 +1,6 @@
 -- A float that differs from itself is the NaN, whose bits are a constant; any other has its own.
-use Rattle.number.specs.BitFacts.{nan-double, no-nan}
+use lib.Ieee.{binary64, toBits}
+use Rattle.number.specs.BitFacts.{nan-bits, no-nan}
 use borrow.Author.Needs.{needs}
 use Rattle.number.proofs.double_bits.Statement.{statement}
 use Rattle.number.proofs.double_bits.Tie as tie
@@ -8,7 +9,8 @@ float-to-bits-result : tie.Need-float-to-bits-result
 float-to-bits-result c = no-nan _ (c .if1 .left)
 
 returns : tie.Need-returns
-returns c = nan-double _ (c .if1 .taken)
+unfolding toBits
+returns c = nan-bits binary64 _ (c .if1 .taken)
 
 returns-2 : tie.Need-returns-2
 returns-2 c = search needs
