@@ -14,7 +14,8 @@ use Rattle.number.specs.declared.NumberForm.the-variants as forms
 use Rattle.number.specs.declared.OptionForm.{OptionForm}
 use Rattle.number.specs.declared.OptionForm.the-variants as options
 
--- The class bit field. Of both classes bit 0 is the byte order: the highest byte first where it is set. Bits that have no name here are not tested.
+-- The class bit field. Of both classes bit 0 is the byte order: the highest byte first where it is set. The padding types, bits 1 and 2 and of
+-- floats bit 3, speak of unused bits, and there are none in these forms; they are not tested, nor are bits that have no meaning.
 abbrev pub bigEndian : ℕ → Bool
 bigEndian bits = bit bits 0
 
