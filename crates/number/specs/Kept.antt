@@ -18,11 +18,11 @@ use Rattle.format.specs.Format.{bind, pick, Stands}
 use Rattle.records.specs.declared.Number.{Number}
 use Rattle.records.specs.declared.Number.the-variants as numbers
 use Rattle.records.specs.Numbers.{twos, numberCase, numberBits}
-use Rattle.number.specs.declared.NumberForm.{NumberForm}
-use Rattle.number.specs.declared.NumberForm.the-variants as forms
-use Rattle.number.specs.Forms.{bigEndian, wholeSize, Sized}
+use Rattle.number_form.specs.declared.NumberForm.{NumberForm}
+use Rattle.number_form.specs.declared.NumberForm.the-variants as forms
+use Rattle.number_form.specs.Forms.{bigEndian, wholeSize, Sized}
 use Rattle.number.specs.Values.{element, signedOf, singleOf, doubleOf, numberOf, numberValue}
-use Rattle.number.specs.Facts.{small-size, some-size}
+use Rattle.number_form.specs.Sizes.{small-size, some-size}
 
 -- the element of w bytes at p, as one number
 abbrev pub stored : List ℕ → ℕ → ℕ → ℕ → ℕ

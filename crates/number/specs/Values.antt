@@ -7,9 +7,9 @@ use Rattle.format.specs.Bytes.{swap}
 use Rattle.format.specs.Format.{Format, done, number, bind, pick}
 use Rattle.records.specs.declared.Number.{Number}
 use Rattle.records.specs.declared.Number.the-variants as numbers
-use Rattle.number.specs.declared.NumberForm.{NumberForm}
-use Rattle.number.specs.declared.NumberForm.the-variants as forms
-use Rattle.number.specs.Forms.{bigEndian}
+use Rattle.number_form.specs.declared.NumberForm.{NumberForm}
+use Rattle.number_form.specs.declared.NumberForm.the-variants as forms
+use Rattle.number_form.specs.Forms.{bigEndian}
 
 -- an element of w bytes as one number, in its byte order
 unfoldable pub element : ℕ → ℕ → Format ℕ

@@ -1,11 +1,9 @@
-// The number in one element of a datatype: which forms of classes 0 and 1 have one, its bits as they
-// are stored, and the two words that a row has of it.
+// The number in one element of a form that has one, its bits as they are stored, and the two words
+// that a row has of it.
 use helpers::ReadU64;
 use helpers::varint;
-use records::DataFormat;
-use records::DataType;
+use number_form::NumberForm;
 use records::Number;
-use records::OptionDataFormat;
 use records::Value;
 ghost use mathlib.Core.Path.{_≡_};
 ghost use mathlib.Core.Bool.{true};
@@ -15,121 +13,13 @@ ghost use Rattle.format.specs.Bytes.{swap};
 ghost use Rattle.format.specs.Format.{read};
 ghost use Rattle.helpers.specs.Answers.{u64Out};
 ghost use Rattle.records.specs.Numbers.{twos, numberCase, numberBits, valueCase, valueBits};
-ghost use Rattle.number.specs.Forms.{wholeSize, fixedForm, isFloat, floatForm, numberForm, Sized};
+ghost use Rattle.number_form.specs.Forms.{wholeSize, Sized};
 ghost use Rattle.number.specs.Values.{element as elementFormat, signedOf, singleOf, doubleOf, numberOf, numberValue};
 ghost use Rattle.number.specs.Answers.{numberOut, Below};
-
-// Which number the bytes of an element are.
-pub enum NumberForm {
-    Unsigned,
-    Signed,
-    Single,
-    Double,
-}
-
-pub enum OptionForm {
-    None,
-    Some(NumberForm),
-}
 
 pub enum NumberRead {
     Read(Number, usize),
     Short,
-}
-
-fn whole_size(size: u32) -> bool
-    ensures { λ r. ⌜ r ≡ wholeSize size ⌝ }
-{
-    match size {
-        1 => true,
-        2 => true,
-        4 => true,
-        8 => true,
-        _ => false,
-    }
-}
-
-// All bits of 1, 2, 4 or 8 bytes, with a sign where class bit 3 is set.
-fn fixed_form(bits: u32, size: u32, bit_offset: u16, bit_precision: u16) -> OptionForm
-    ensures { λ r. ⌜ r ≡ fixedForm bits size «bit_offset» «bit_precision» ⌝ }
-{
-    if !whole_size(size) {
-        return OptionForm::None;
-    }
-    if bit_offset != 0 {
-        return OptionForm::None;
-    }
-    if bit_precision as u32 != 8 * size {
-        return OptionForm::None;
-    }
-    if bits & 8 == 0 {
-        return OptionForm::Some(NumberForm::Unsigned);
-    }
-    OptionForm::Some(NumberForm::Signed)
-}
-
-// A float in all bits of so many bytes. Class bit 6 is that of the VAX order; bits 4 and 5 are the
-// mantissa's normalization, bits 8 to 15 the place of the sign.
-fn is_float(bits: u32, size: u32, bit_precision: u16, width: u32) -> bool
-    requires { ⌜ (1 ≤ width) × (width ≤ 8) ⌝ }
-    ensures { λ r. ⌜ r ≡ isFloat bits size «bit_precision» width ⌝ }
-{
-    if bit_precision as u32 != 8 * width {
-        return false;
-    }
-    if size != width {
-        return false;
-    }
-    if bits & 64 != 0 {
-        return false;
-    }
-    if bits >> 4 & 3 != 2 {
-        return false;
-    }
-    bits >> 8 & 255 == 8 * width - 1
-}
-
-fn float_form(bits: u32, size: u32, bit_precision: u16) -> OptionForm
-    ensures { λ r. ⌜ r ≡ floatForm bits size «bit_precision» ⌝ }
-{
-    if is_float(bits, size, bit_precision, 4) {
-        return OptionForm::Some(NumberForm::Single);
-    }
-    if is_float(bits, size, bit_precision, 8) {
-        return OptionForm::Some(NumberForm::Double);
-    }
-    OptionForm::None
-}
-
-// The number of a datatype, where it has one. A variable-length type has its base type's format, so
-// the class is tested.
-pub fn number_form(datatype: DataType) -> OptionForm
-    ensures { λ r. ⌜ r ≡ numberForm datatype ⌝ }
-{
-    let class = datatype.class_and_version & 15;
-    let bits = datatype.class_bit_field;
-    let size = datatype.size;
-    let data_fmt = datatype.data_fmt;
-    let OptionDataFormat::Some(format) = data_fmt else {
-        return OptionForm::None;
-    };
-    match format {
-        DataFormat::Fixed {
-            bit_offset,
-            bit_precision,
-        } => {
-            if class != 0 {
-                return OptionForm::None;
-            }
-            fixed_form(bits, size, bit_offset, bit_precision)
-        }
-        DataFormat::Float { bit_precision, .. } => {
-            if class != 1 {
-                return OptionForm::None;
-            }
-            float_form(bits, size, bit_precision)
-        }
-    }
 }
 
 // The lowest bytes of a number in the other order.

@@ -10,9 +10,9 @@ use Rattle.records.specs.declared.Value.the-variants as values
 use Rattle.records.specs.declared.Attribute.{Attribute}
 use Rattle.records.specs.declared.DataType.{DataType}
 use Rattle.parser.specs.declared.State.{State}
-use Rattle.number.specs.declared.OptionForm.{OptionForm}
-use Rattle.number.specs.declared.OptionForm.the-variants as options
-use Rattle.number.specs.Forms.{numberForm}
+use Rattle.number_form.specs.declared.OptionForm.{OptionForm}
+use Rattle.number_form.specs.declared.OptionForm.the-variants as options
+use Rattle.number_form.specs.Forms.{numberForm}
 use Rattle.number.specs.Values.{numberValue}
 use Rattle.ohdr_attribute.specs.declared.AttributeFields.{AttributeFields}
 use Rattle.ohdr_datatype.specs.DataTypes.{classOf, dataType, typeLevels}

@@ -17,12 +17,12 @@ use Rattle.records.specs.declared.Value.the-variants as values
 use Rattle.records.specs.declared.DataType.{DataType}
 use Rattle.records.specs.declared.DataSpace.{DataSpace}
 use Rattle.parser.specs.declared.State.{State}
-use Rattle.number.specs.declared.NumberForm.{NumberForm}
-use Rattle.number.specs.declared.OptionForm.{OptionForm}
-use Rattle.number.specs.declared.OptionForm.the-variants as options
-use Rattle.number.specs.Forms.{numberForm}
+use Rattle.number_form.specs.declared.NumberForm.{NumberForm}
+use Rattle.number_form.specs.declared.OptionForm.{OptionForm}
+use Rattle.number_form.specs.declared.OptionForm.the-variants as options
+use Rattle.number_form.specs.Forms.{numberForm}
 use Rattle.number.specs.Values.{numberOf, numberValue}
-use Rattle.number.specs.Facts.{no-form}
+use Rattle.number_form.specs.Sizes.{no-form}
 use Rattle.number.specs.Kept.{stored, number-room, number-stands}
 use Rattle.ohdr_datatype.specs.DataTypes.{dataType, typeLevels}
 use Rattle.ohdr_dataspace.specs.DataSpaces as spaces

@@ -22,9 +22,9 @@ use Rattle.records.specs.declared.Attribute as ours
 use Rattle.records.specs.declared.DataType.{DataType}
 use Rattle.records.specs.declared.DataSpace.{DataSpace}
 use Rattle.parser.specs.declared.State.{State}
-use Rattle.number.specs.declared.NumberForm.{NumberForm}
-use Rattle.number.specs.declared.OptionForm.the-variants as options
-use Rattle.number.specs.Forms.{numberForm}
+use Rattle.number_form.specs.declared.NumberForm.{NumberForm}
+use Rattle.number_form.specs.declared.OptionForm.the-variants as options
+use Rattle.number_form.specs.Forms.{numberForm}
 use Rattle.number.specs.Values.{numberOf, numberValue}
 use Rattle.number.specs.Kept.{stored, stands-number}
 use Rattle.ohdr_datatype.specs.DataTypes.{classOf, dataType, typeLevels}

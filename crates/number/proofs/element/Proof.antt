@@ -6,7 +6,8 @@ use Rattle.format.specs.Bits.{bit-set, bit-clear}
 use Rattle.format.specs.Steps.{read-number, read-done}
 use Rattle.format.specs.OrderLaws.{swap-below}
 use Rattle.number.specs.Values.{element}
-use Rattle.number.specs.Facts.{small-size, number-below}
+use Rattle.number_form.specs.Sizes.{small-size}
+use Rattle.number.specs.Facts.{number-below}
 use borrow.Author.Needs.{needs}
 use Rattle.number.proofs.element.Statement.{statement}
 use Rattle.number.proofs.element.Tie as tie

@@ -1,5 +1,5 @@
 -- Each size has its own half.
-use Rattle.number.specs.Facts.{last-size}
+use Rattle.number_form.specs.Sizes.{last-size}
 use native.Mathlib.Omega.{arith}
 use mathlib.Core.Path.{refl}
 use Rattle.number.proofs.half_of.Statement.{statement}

@@ -1,7 +1,7 @@
 -- The element is read, and its number made of it.
 use Rattle.format.specs.Steps.{read-bind, read-done}
 use Rattle.number.specs.Values.{numberValue}
-use Rattle.number.specs.Facts.{sized-whole}
+use Rattle.number_form.specs.Sizes.{sized-whole}
 use borrow.Author.Needs.{needs}
 use Rattle.number.proofs.number_value.Statement.{statement}
 use Rattle.number.proofs.number_value.Tie as tie

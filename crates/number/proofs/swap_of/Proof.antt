@@ -1,5 +1,5 @@
 -- Each size has its own swap.
-use Rattle.number.specs.Facts.{last-size}
+use Rattle.number_form.specs.Sizes.{last-size}
 use Rattle.format.specs.Bytes.{swap}
 use native.Mathlib.Omega.{arith}
 use borrow.Author.Needs.{needs}

@@ -1,8 +1,8 @@
 -- Each size by itself.
-use Rattle.number.specs.Forms.{wholeSize}
+use Rattle.number_form.specs.Forms.{wholeSize}
 use borrow.Author.Tests.{ne-eqb}
-use Rattle.number.proofs.whole_size.Statement.{statement}
-use Rattle.number.proofs.whole_size.Tie as tie
+use Rattle.number_form.proofs.whole_size.Statement.{statement}
+use Rattle.number_form.proofs.whole_size.Tie as tie
 
 returns : tie.Need-returns
 unfolding wholeSize

@@ -9,10 +9,10 @@ use Rattle.records.specs.declared.DataFormat.the-variants as formats
 use Rattle.records.specs.declared.OptionDataFormat.{OptionDataFormat}
 use Rattle.records.specs.declared.OptionDataFormat.the-variants as optionFormats
 use Rattle.records.specs.declared.DataType.{DataType}
-use Rattle.number.specs.declared.NumberForm.{NumberForm}
-use Rattle.number.specs.declared.NumberForm.the-variants as forms
-use Rattle.number.specs.declared.OptionForm.{OptionForm}
-use Rattle.number.specs.declared.OptionForm.the-variants as options
+use Rattle.number_form.specs.declared.NumberForm.{NumberForm}
+use Rattle.number_form.specs.declared.NumberForm.the-variants as forms
+use Rattle.number_form.specs.declared.OptionForm.{OptionForm}
+use Rattle.number_form.specs.declared.OptionForm.the-variants as options
 
 -- The class bit field. Of both classes bit 0 is the byte order: the highest byte first where it is set. The padding types, bits 1 and 2 and of
 -- floats bit 3, speak of unused bits, and there are none in these forms; they are not tested, nor are bits that have no meaning.

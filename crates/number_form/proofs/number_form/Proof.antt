@@ -1,10 +1,10 @@
 -- The format chooses the test, and the class must be the format's.
 use borrow.Author.Tests.{ne-eqb}
 use lib.Bits.{and-mask}
-use Rattle.number.specs.Forms.{numberForm}
+use Rattle.number_form.specs.Forms.{numberForm}
 use borrow.Author.Needs.{needs}
-use Rattle.number.proofs.number_form.Statement.{statement}
-use Rattle.number.proofs.number_form.Tie as tie
+use Rattle.number_form.proofs.number_form.Statement.{statement}
+use Rattle.number_form.proofs.number_form.Tie as tie
 
 enum-known-data-fmt : tie.Need-enum-known-data-fmt
 enum-known-data-fmt c = search needs

@@ -3,11 +3,11 @@ use mathlib.Core.Path.{sym, _∙_}
 use native.Mathlib.Omega.{arith}
 use borrow.Author.Tests.{not-true, not-false, eq-eqb, ne-eqb}
 use Rattle.format.specs.Bits.{bit-set, bit-clear}
-use Rattle.number.specs.Facts.{small-size}
-use Rattle.number.specs.Forms.{fixedForm}
+use Rattle.number_form.specs.Sizes.{small-size}
+use Rattle.number_form.specs.Forms.{fixedForm}
 use borrow.Author.Needs.{needs}
-use Rattle.number.proofs.fixed_form.Statement.{statement}
-use Rattle.number.proofs.fixed_form.Tie as tie
+use Rattle.number_form.proofs.fixed_form.Statement.{statement}
+use Rattle.number_form.proofs.fixed_form.Tie as tie
 
 whole-size-requires : tie.Need-whole-size-requires
 whole-size-requires c κs = search needs

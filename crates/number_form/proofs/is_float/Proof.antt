@@ -3,10 +3,10 @@ use borrow.Author.Tests.{eq-eqb, ne-eqb}
 use Prim.Native.Nat.{_/_}
 use lib.Bits.{and-mask}
 use Rattle.format.specs.Bits.{bit-set, bit-clear}
-use Rattle.number.specs.Forms.{isFloat}
+use Rattle.number_form.specs.Forms.{isFloat}
 use borrow.Author.Needs.{needs}
-use Rattle.number.proofs.is_float.Statement.{statement}
-use Rattle.number.proofs.is_float.Tie as tie
+use Rattle.number_form.proofs.is_float.Statement.{statement}
+use Rattle.number_form.proofs.is_float.Tie as tie
 
 mul-if1 : tie.Need-mul-if1
 mul-if1 c = search needs

@@ -1,8 +1,8 @@
 -- A single, a double, or neither.
-use Rattle.number.specs.Forms.{floatForm}
+use Rattle.number_form.specs.Forms.{floatForm}
 use borrow.Author.Needs.{needs}
-use Rattle.number.proofs.float_form.Statement.{statement}
-use Rattle.number.proofs.float_form.Tie as tie
+use Rattle.number_form.proofs.float_form.Statement.{statement}
+use Rattle.number_form.proofs.float_form.Tie as tie
 
 is-float-requires : tie.Need-is-float-requires
 is-float-requires c κs = search needs
