@@ -27,6 +27,7 @@ ghost use mathlib.Core.Path.{_≡_};
 ghost use Prim.Native.Nat.{_/_, _≤_};
 ghost use lib.ListN.{length};
 ghost use Rattle.row.specs.Rows.{rowWords};
+ghost use Rattle.records.specs.Elements.{TrueSpace};
 ghost use Rattle.parser.specs.States.{Widths};
 ghost use Rattle.data_object.specs.Decoded.{Decoded, bytesOf};
 ghost use Rattle.data_object.specs.DecodedLaws.{Built, RejectedAs};
@@ -53,6 +54,7 @@ pub struct DataObject {
 // A header that is refused hands no record out.
 fn rejected(refusal: Refusal) -> DataObject
     ensures { λ r. ⌜ RejectedAs refusal r ⌝ }
+    ensures { λ r. ⌜ TrueSpace (r .ds) ⌝ }
 {
     let dt = DataType::default();
     let ds = DataSpace::default();
@@ -81,6 +83,7 @@ fn build_data_object_from_messages(
 ) -> DataObject
     requires { ⌜ Widths state × (progress .rows ≤ length (now table) / rowWords) ⌝ }
     ensures { λ r. ⌜ Built (now (file .entry)) (now (table .entry)) progress state r ⌝ }
+    ensures { λ r. ⌜ TrueSpace (r .ds) ⌝ }
 {
     let rows = progress.rows;
     let mut last = [0usize; 22];
@@ -104,7 +107,8 @@ fn build_data_object_from_messages(
 }
 
 // An object header at a position. Its messages go into the table, one a row, then zeros; a header
-// that is refused leaves the table all zero. Words that a row fills are not cleared before.
+// that is refused leaves the table all zero. Words that a row fills are not cleared before. The
+// dataspace that is handed out is true, accepted or refused.
 pub fn data_object(
     file: &[u8],
     position: u64,
@@ -114,6 +118,7 @@ pub fn data_object(
     table: &mut [u64],
 ) -> DataObject
     ensures { λ r. ⌜ Decoded (now (file .entry)) «offset_width» «length_width» «end_of_file» position (length (now (table .entry))) r (now (table .exit)) ⌝ }
+    ensures { λ r. ⌜ TrueSpace (r .ds) ⌝ }
 {
     let limits = Limits {
         entries: 4096,

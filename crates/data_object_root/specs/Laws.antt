@@ -1,17 +1,19 @@
 -- What is handed over of a file's root, and what checking it yields, is what the same gives by hand with the superblock's values, and there is one
--- table, one list of words and one answer of a check, since decoding and checking have one answer. Assumes nothing.
+-- table, one list of words and one answer of a check, since decoding and checking have one answer. What is refused has a true dataspace too.
+-- Assumes nothing.
 use Prim.Native.Nat.{ℕ}
-use mathlib.Core.Path.{_≡_, sym, _∙_}
+use mathlib.Core.Path.{_≡_, refl, sym, _∙_}
 use mathlib.Core.List.{List}
 use Rattle.format.specs.Format.{Out, found, refused}
+use Rattle.records.specs.Elements.{product}
 use Rattle.super_block.specs.declared.SuperBlock.{SuperBlock}
 use Rattle.super_block.specs.SuperBlocks.{superBlockOf}
 use Rattle.data_object_check.specs.declared.CheckAnswer.{CheckAnswer}
 use Rattle.data_object_check.specs.Checked.{Checked}
 use Rattle.data_object_check.specs.CheckedLaws.{check-answer-unique, checked-unique}
-use Rattle.data_object_words.specs.Handed.{Handed}
+use Rattle.data_object_words.specs.Handed.{Handed, TrueWords}
 use Rattle.data_object_words.specs.Unique.{handed-unique}
-use Rattle.data_object_root.specs.Root.{HandedBy, HandedRoot, CheckedBy, CheckedRoot}
+use Rattle.data_object_root.specs.Root.{refusedWords, HandedBy, HandedRoot, CheckedBy, CheckedRoot}
 
 module _ (file : List ℕ) (n : ℕ) (t u v w : List ℕ) where
   by-block : (o : Out SuperBlock) → HandedBy file n t v o → HandedBy file n u w o → (t ≡ u) × (v ≡ w)
@@ -37,3 +39,7 @@ module _ (file : List ℕ) (x y : CheckAnswer) where
   pub check-by-hand : (b : SuperBlock) (q : ℕ) → superBlockOf file ≡ found b q → CheckedRoot file x
       → Checked file (b .«size_of_offsets») (b .«size_of_lengths») (b .«end_of_file_address») (b .«root_group_object_header_address») y → x ≡ y
   check-by-hand b q e c d = checked-by (found b q) (rw e at c) d
+
+pub refused-true : (r : ℕ) → TrueWords (refusedWords r)
+unfolding product
+refused-true r = refl

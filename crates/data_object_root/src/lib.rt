@@ -10,21 +10,25 @@ use super_block::super_block;
 ghost use mathlib.Core.Path.{_≡_};
 ghost use lib.ListN.{length};
 ghost use Rattle.records.specs.Refusals.{refusalNumber};
+ghost use Rattle.data_object_words.specs.Handed.{TrueWords};
 ghost use Rattle.data_object_root.specs.Root.{refusedWords, HandedRoot, CheckedRoot};
 
-// The words of a file that is refused: the refusal's number, and nothing else.
+// The words of a file that is refused: the refusal's number, and the default records, of which the
+// dataspace has one element.
 fn put_refusal(words: &mut [u64], refusal: Refusal)
-    requires { ⌜ length (now words) ≡ 63 ⌝ }
+    requires { ⌜ length (now words) ≡ 65 ⌝ }
     ensures { λ _. ⌜ now (words .exit) ≡ refusedWords (refusalNumber refusal) ⌝ }
 {
     clear_behind(words, 0);
     words[0] = refusal.number();
+    words[19] = 1;
 }
 
 // The root's object header: its messages in the table, and its words. A superblock that is refused
 // leaves the table all zero.
-pub fn root_words(file: &[u8], table: &mut [u64], words: &mut [u64; 63])
+pub fn root_words(file: &[u8], table: &mut [u64], words: &mut [u64; 65])
     ensures { λ _. ⌜ HandedRoot (now (file .entry)) (length (now (table .entry))) (now (table .exit)) (now (words .exit)) ⌝ }
+    ensures { λ _. ⌜ TrueWords (now (words .exit)) ⌝ }
 {
     match super_block(file) {
         SuperBlockRead::Refused(refusal) => {

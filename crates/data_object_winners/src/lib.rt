@@ -25,6 +25,7 @@ ghost use Prim.Native.Nat.{_/_, _≤_};
 ghost use lib.ListN.{length};
 ghost use Rattle.row.specs.Rows.{rowWords};
 ghost use Rattle.records.specs.Defaults.{defaultDataSpace, defaultLinkInfo, defaultGroupInfo, defaultAttributeInfo, defaultDataType, defaultDataLayout};
+ghost use Rattle.records.specs.Elements.{TrueSpace};
 ghost use Rattle.parser.specs.States.{Widths};
 ghost use Rattle.ohdr_info.specs.Info.{linkInfo, groupInfo, attributeInfo};
 ghost use Rattle.ohdr_storage.specs.Storage.{dataLayout};
@@ -70,6 +71,7 @@ fn last_body(table: &[u64], row: usize) -> LastBody
 pub fn winning_data_space(file: &[u8], table: &[u64], row: usize, state: State) -> DataSpace
     requires { ⌜ Widths state × (row ≤ length (now table) / rowWords) ⌝ }
     ensures { λ r. ⌜ r ≡ winner (now (file .entry)) (dataSpace state) defaultDataSpace (bodyOf (now (table .entry)) row) ⌝ }
+    ensures { λ r. ⌜ TrueSpace r ⌝ }
 {
     let LastBody::At(body) = last_body(table, row) else {
         return DataSpace::default();

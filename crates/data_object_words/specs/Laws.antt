@@ -12,7 +12,8 @@ use Rattle.row.specs.RowLaws.{sets-append}
 use Rattle.data_object.specs.declared.Answer.{Answer}
 use Rattle.data_object.specs.declared.Answer.the-variants as answers
 use Rattle.data_object.specs.declared.DataObject.{DataObject}
-use Rattle.data_object_words.specs.Words.{dataSpaceWords, formatWords, dataTypeWords, linkInfoWords, groupInfoWords, attributeInfoWords, dataLayoutWords, answerWords, wordsOf}
+use Rattle.record_words.specs.Words.{dataSpaceWords, formatWords, dataTypeWords, linkInfoWords, groupInfoWords, attributeInfoWords, dataLayoutWords}
+use Rattle.data_object_words.specs.Words.{answerWords, wordsOf}
 
 length-answer : (a : Answer) → length (answerWords a) ≡ 3
 length-answer (answers.Read next entries) = refl
@@ -23,7 +24,7 @@ length-format optionFormats.None = refl
 length-format (optionFormats.Some (formats.Fixed a b)) = refl
 length-format (optionFormats.Some (formats.Float a b c d e f g)) = refl
 
-pub length-words : (o : DataObject) → length (wordsOf o) ≡ 63
+pub length-words : (o : DataObject) → length (wordsOf o) ≡ 65
 length-words o = rw (length-append (answerWords (o .answer)), length-answer, length-append (formatWords (o .dt .«data_fmt»)), length-format)
 
 pub rows-word : (o : DataObject) → getD (wordsOf o) 3 0 ≡ o .rows
@@ -37,14 +38,14 @@ module _ (o : DataObject) (t : List ℕ) where
   -- each piece at its place in t
   abbrev placed : List ℕ
   placed =
-      let records = sets (sets (set (sets t 0 (answerWords (o .answer))) 3 (o .rows)) 4 (dataSpaceWords (o .ds))) 18 (dataTypeWords (o .dt)) in
-      let infos = sets (sets (sets records 31 (linkInfoWords (o .li))) 41 (groupInfoWords (o .gi))) 50 (attributeInfoWords (o .ai)) in
-      sets infos 58 (dataLayoutWords (o .layout))
+      let records = sets (sets (set (sets t 0 (answerWords (o .answer))) 3 (o .rows)) 4 (dataSpaceWords (o .ds))) 20 (dataTypeWords (o .dt)) in
+      let infos = sets (sets (sets records 33 (linkInfoWords (o .li))) 43 (groupInfoWords (o .gi))) 52 (attributeInfoWords (o .ai)) in
+      sets infos 60 (dataLayoutWords (o .layout))
 
   in-order : placed ≡ sets t 0 (wordsOf o)
   in-order = rw (sets-append (answerWords (o .answer)), length-answer, sets-append (formatWords (o .dt .«data_fmt»)), length-format)
 
-  pub put-whole : length t ≡ 63 → placed ≡ wordsOf o
+  pub put-whole : length t ≡ 65 → placed ≡ wordsOf o
   put-whole l =
       in-order
       ∙ sets-eq (wordsOf o) t 0 (omega (arith, length-words o))

@@ -3,7 +3,7 @@ use Rattle.format.specs.Format.{Out, found, refused}
 use Rattle.records.specs.declared.Address.{Address}
 use Rattle.records.specs.declared.Address.the-variants as addresses
 use Rattle.super_block.specs.declared.SuperBlock.{SuperBlock}
-use Rattle.data_object_words.specs.Words.{undefined, numberOf}
+use Rattle.record_words.specs.Words.{undefined, numberOf}
 use Rattle.firmware.specs.declared.AddressWords.{AddressWords}
 use Rattle.firmware.specs.declared.SuperBlockWords.{SuperBlockWords}
 

@@ -15,7 +15,7 @@ use Rattle.data_object.specs.declared.Answer.the-variants as answers
 use Rattle.data_object.specs.Decoded.{Meant}
 use Rattle.firmware.specs.Words.{noPart, inWords}
 use Rattle.data_object_words.specs.Handed.{Handed}
-use Rattle.data_object_root.specs.Root.{HandedBy, HandedRoot}
+use Rattle.data_object_root.specs.Root.{refusedWords, HandedBy, HandedRoot}
 use Rattle.firmware.specs.Handed.{HandedPart}
 
 module _ (file : List ℕ) (p : Part) where
@@ -35,10 +35,10 @@ module _ (file : List ℕ) (p : Part) where
         bytes = rw (lt-leb (p .position + p .length) (length file) h);
       }
 
--- Of a header that is refused every word but the number is 0, and so is the whole table.
+-- Of a header that is refused every word but the number is that of the defaults, and the whole table is 0.
 module _ {file : List ℕ} {offsets lengths end at n : ℕ} {t w : List ℕ} (h : Handed file offsets lengths end at n t w) where
   by-answer : (a : Answer) → h .object .answer ≡ a → Meant file offsets lengths end at n a (h .object) t → (getD w 0 0 ≡ 0 → ⊥)
-      → (w ≡ getD w 0 0 ∷ replicate 62 0) × (t ≡ replicate n 0)
+      → (w ≡ refusedWords (getD w 0 0)) × (t ≡ replicate n 0)
   by-answer (answers.Read next count) e m f = absurd (f (rw (h .words, e)))
   by-answer (answers.Refused x) e m f = (
     rw (
@@ -55,14 +55,14 @@ module _ {file : List ℕ} {offsets lengths end at n : ℕ} {t w : List ℕ} (h 
     m .table,
   )
 
-  pub refused-words : (getD w 0 0 ≡ 0 → ⊥) → (w ≡ getD w 0 0 ∷ replicate 62 0) × (t ≡ replicate n 0)
+  pub refused-words : (getD w 0 0 ≡ 0 → ⊥) → (w ≡ refusedWords (getD w 0 0)) × (t ≡ replicate n 0)
   refused-words f = by-answer (h .object .answer) refl (h .decoded .meant) f
 
 -- The same of a file whose superblock or whose root's header is refused.
 module _ (file : List ℕ) (n : ℕ) (t w : List ℕ) where
-  by-block : (o : Out SuperBlock) → HandedBy file n t w o → (getD w 0 0 ≡ 0 → ⊥) → (w ≡ getD w 0 0 ∷ replicate 62 0) × (t ≡ replicate n 0)
+  by-block : (o : Out SuperBlock) → HandedBy file n t w o → (getD w 0 0 ≡ 0 → ⊥) → (w ≡ refusedWords (getD w 0 0)) × (t ≡ replicate n 0)
   by-block (found b q) h f = refused-words h f
   by-block (refused r) h f = (rw (h .1), h .0)
 
-  pub refused-root : HandedRoot file n t w → (getD w 0 0 ≡ 0 → ⊥) → (w ≡ getD w 0 0 ∷ replicate 62 0) × (t ≡ replicate n 0)
+  pub refused-root : HandedRoot file n t w → (getD w 0 0 ≡ 0 → ⊥) → (w ≡ refusedWords (getD w 0 0)) × (t ≡ replicate n 0)
   refused-root h f = by-block (superBlockOf file) h f

@@ -17,7 +17,7 @@ ghost use Rattle.listing_text.specs.Listing.{listingOf, Counts};
 ghost use Rattle.super_block.specs.SuperBlocks.{superBlockOf};
 ghost use Rattle.super_block.specs.Answers.{superBlockOut};
 ghost use Rattle.data_object_check.specs.Checked.{Checked};
-ghost use Rattle.data_object_words.specs.Handed.{Handed};
+ghost use Rattle.data_object_words.specs.Handed.{Handed, TrueWords};
 ghost use Rattle.data_object_root.specs.Root.{HandedRoot, CheckedRoot};
 ghost use Rattle.firmware.specs.Words.{foundRow, lookupOf, checkOf};
 ghost use Rattle.firmware.specs.Blocks.{wordsOfAddress, blockOf};
@@ -195,8 +195,9 @@ pub extern "C" fn dowringaf_check_root_object(file: &[u8]) -> CheckWords
 // The root's object header of a plain file: its messages in the table, and its words in the order
 // of `wordsOf`.
 #[no_mangle]
-pub extern "C" fn dowringaf_root_object(file: &[u8], table: &mut [u64], words: &mut [u64; 63])
+pub extern "C" fn dowringaf_root_object(file: &[u8], table: &mut [u64], words: &mut [u64; 65])
     ensures { λ _. ⌜ HandedRoot (now (file .entry)) (length (now (table .entry))) (now (table .exit)) (now (words .exit)) ⌝ }
+    ensures { λ _. ⌜ TrueWords (now (words .exit)) ⌝ }
 {
     root_words(file, table, words);
 }
@@ -211,9 +212,10 @@ pub extern "C" fn dowringaf_data_object(
     length_width: u64,
     end_of_file: u64,
     table: &mut [u64],
-    words: &mut [u64; 63],
+    words: &mut [u64; 65],
 )
     ensures { λ _. ⌜ Handed (now (file .entry)) «offset_width» «length_width» «end_of_file» position (length (now (table .entry))) (now (table .exit)) (now (words .exit)) ⌝ }
+    ensures { λ _. ⌜ TrueWords (now (words .exit)) ⌝ }
 {
     header_words(
         file,

@@ -92,7 +92,7 @@ pub fn put_refused(out: &mut [u8], n: u64) -> usize
 }
 
 // A header's words, with the rows of its table, as text.
-fn put_result(out: &mut [u8], table: &[u64], words: &[u64; 63]) -> usize
+fn put_result(out: &mut [u8], table: &[u64], words: &[u64; 65]) -> usize
     requires { ⌜ (getD (now words) 3 0 ≤ length (now table) / rowWords) × (getD (now words) 3 0 * 189 + 46 ≤ length (now out)) ⌝ }
     ensures { λ r. ⌜ Wrote (now (out .entry)) 0 (now (out .exit)) r (wordsText (now (words .entry)) (firstRows (now (table .entry)) (getD (now (words .entry)) 3 0))) ⌝ }
 {
@@ -117,7 +117,7 @@ fn fill_header(
     ensures { λ r. ⌜ Wrote (now (out .entry)) 0 (now (out .exit)) r (resultOf (decode (now (file .entry)) «offset_width» «length_width» «end_of_file» position (lent 512))) ⌝ }
 {
     let mut table = [0u64; 512 * ROW_WORDS];
-    let mut words = [0u64; 63];
+    let mut words = [0u64; 65];
     header_words(
         file,
         position,

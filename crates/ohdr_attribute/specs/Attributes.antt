@@ -4,6 +4,7 @@ use mathlib.Core.Bool.{_&&_, _||_}
 use lib.Dec.{eqb, leb, ltb}
 use Rattle.format.specs.Bytes.{toMultipleOf8}
 use Rattle.format.specs.Format.{Format, done, number, skip, text, here, attempt, bind, check, pick, nothing}
+use Rattle.records.specs.Elements.{elementsOf}
 use Rattle.records.specs.declared.Part.{Part}
 use Rattle.records.specs.declared.Value.{Value}
 use Rattle.records.specs.declared.Value.the-variants as values
@@ -16,7 +17,7 @@ use Rattle.number_form.specs.Forms.{numberForm}
 use Rattle.number.specs.Values.{numberValue}
 use Rattle.ohdr_attribute.specs.declared.AttributeFields.{AttributeFields}
 use Rattle.ohdr_datatype.specs.DataTypes.{classOf, dataType, typeLevels}
-use Rattle.ohdr_dataspace.specs.DataSpaces.{dataSpace, elements}
+use Rattle.ohdr_dataspace.specs.DataSpaces.{dataSpace}
 
 -- a name, a type or a space of n bytes is padded to a multiple of 8 in version 1
 abbrev pub padding : ℕ → ℕ → ℕ
@@ -53,7 +54,7 @@ value t n =
 
 -- dataspace and data, the first with its padding
 unfoldable pub spaceValue : ℕ → State → DataType → Format Value
-spaceValue version s datatype = padded version (dataSpace s) (λ dataspace. value datatype (elements dataspace))
+spaceValue version s datatype = padded version (dataSpace s) (λ dataspace. value datatype (elementsOf dataspace))
 
 -- datatype, dataspace and data, the first two each with its padding
 unfoldable pub typeSpaceValue : ℕ → State → Format Value

@@ -1,5 +1,6 @@
 // The attribute message (ohdr_message.rs, message_attribute): a name, and the value of a text or of a
 // number.
+use element_count::times;
 use helpers::Place;
 use helpers::ReadLength;
 use helpers::ReadU8;
@@ -14,16 +15,14 @@ use number::NumberRead;
 use number::number_value;
 use number_form::OptionForm;
 use number_form::number_form;
-use ohdr_dataspace::ElementCount;
-use ohdr_dataspace::elements;
 use ohdr_dataspace::message_data_space;
-use ohdr_dataspace::times;
 use ohdr_datatype::DataTypeRead;
 use ohdr_datatype::message_data_type;
 use parser::State;
 use records::Attribute;
 use records::DataSpace;
 use records::DataType;
+use records::ElementCount;
 use records::Part;
 use records::Refusal;
 use records::Value;
@@ -33,8 +32,7 @@ ghost use lib.Dec.{eqb};
 ghost use Rattle.format.specs.Format.{found, read};
 ghost use Rattle.helpers.specs.Answers.{takenOut};
 ghost use Rattle.parser.specs.States.{Widths};
-ghost use Rattle.ohdr_dataspace.specs.DataSpaces.{elements as elementsOf};
-ghost use Rattle.ohdr_dataspace.specs.Answers.{countOf};
+ghost use Rattle.records.specs.Elements.{elementsOf, countOf, TrueSpace};
 ghost use Rattle.number_form.specs.Forms.{numberForm};
 ghost use Rattle.ohdr_attribute.specs.Attributes.{padding, textValue, listValue, otherValue, elementValue, value, spaceValue, valueless, nameAndValue, encoding, attributeFields, attribute};
 ghost use Rattle.ohdr_attribute.specs.Answers.{fieldsOut, valueOut, attributeOut};
@@ -191,11 +189,12 @@ fn is_one(count: ElementCount) -> bool
 
 // The value, by the type's class and size and the space's elements.
 fn attribute_value(file: &[u8], at: usize, datatype: DataType, space: DataSpace) -> ValueRead
+    requires { ⌜ TrueSpace space ⌝ }
     ensures { λ r. ⌜ valueOut r ≡ read (now (file .entry)) (value datatype (elementsOf space)) at ⌝ }
 {
     let class = datatype.class_and_version & 15;
     let size = datatype.size;
-    let count = elements(space);
+    let count = space.elements;
     let total = times(count, size as u64);
     if class == 9 {
         return list_value(file, at, size);

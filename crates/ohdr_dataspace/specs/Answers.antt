@@ -1,13 +1,13 @@
 -- What the answers of the readers mean. Assumes nothing: these are definitions.
-use Prim.Native.Nat.{ℕ, _^_, _≤_}
+use Prim.Native.Nat.{ℕ, _≤_}
 use mathlib.Core.Bool.{false}
 use mathlib.Core.List.{List}
-use lib.Dec.{ltb}
 use mathlib.Core.Path.{_≡_}
 use Rattle.format.specs.Bits.{bit}
-use Rattle.format.specs.Format.{Format, done, bind, pick, Out, found, refused, read}
+use Rattle.format.specs.Format.{Format, done, bind, Out, found, refused, read}
 use Rattle.records.specs.Refusals.{refusalNumber}
 use Rattle.records.specs.Defaults.{defaultDataSpace}
+use Rattle.records.specs.Elements.{elementsBy, countOf}
 use Rattle.records.specs.declared.OptionU8.{OptionU8}
 use Rattle.records.specs.declared.Dimensions.{Dimensions}
 use Rattle.records.specs.declared.DataSpace.{DataSpace}
@@ -19,8 +19,6 @@ use Rattle.ohdr_dataspace.specs.declared.DimensionsRead.{DimensionsRead}
 use Rattle.ohdr_dataspace.specs.declared.FieldsRead.{FieldsRead}
 use Rattle.ohdr_dataspace.specs.declared.FieldsRead.the-variants as fields
 use Rattle.ohdr_dataspace.specs.declared.DataSpaceRead.{DataSpaceRead}
-use Rattle.ohdr_dataspace.specs.declared.ElementCount.{ElementCount}
-use Rattle.ohdr_dataspace.specs.declared.ElementCount.the-variants as counts
 use Rattle.ohdr_dataspace.specs.DataSpaces.{dimensions, maximumSizes}
 
 -- a value that stands beside its answer
@@ -46,6 +44,7 @@ dataSpaceSizes w dimensionality flags kind =
       kind = kind;
       «dimension_size» = dimension-size;
       «dimension_max_size» = dimension-maximum-size;
+      elements = countOf (elementsBy kind dimension-size);
     })))
 
 -- what stands before the sizes, and the sizes from where they begin
@@ -65,7 +64,3 @@ Defaulted (places.Refused r) d = d ≡ defaultDataSpace
 
 abbrev pub dataSpaceOut : DataSpaceRead → Out DataSpace
 dataSpaceOut r = placed (r .answer) (r .«data_space»)
-
--- a number, or too many from 2 ^ 64 up
-abbrev pub countOf : ℕ → ElementCount
-countOf n = pick (ltb n (2 ^ 64)) (counts.Count n) counts.TooMany

@@ -1,4 +1,4 @@
--- What a dataspace that stands is bounded by: at most four sizes, each at most 1,000,000. Assumes nothing.
+-- What a dataspace that stands is bounded by: at most four sizes, each at most 1,000,000; and its record is true. Assumes nothing.
 use Prim.Native.Nat.{ℕ, zero, suc, _+_, _≤_, _<_}
 use mathlib.Core.Path.{_≡_, refl, _∙_}
 use mathlib.Core.Bool.{Bool, true, false, _&&_, _||_, not}
@@ -10,6 +10,7 @@ use borrow.Author.Tests.{leb-true}
 use Rattle.format.specs.Bits.{bit}
 use Rattle.format.specs.Bytes.{le, allOnes}
 use Rattle.format.specs.Format.{done, refuse, pick, Stands}
+use Rattle.records.specs.Elements.{TrueSpace}
 use Rattle.records.specs.declared.OptionU8.{OptionU8}
 use Rattle.records.specs.declared.OptionU8.the-variants as options8
 use Rattle.records.specs.declared.Dimensions.{Dimensions}
@@ -23,6 +24,7 @@ pub record Bounded (d : DataSpace) : Type 0 where
   pub counted : d .«dimension_size» .count ≡ d .dimensionality
   pub few : d .«dimension_size» .count ≤ 4
   pub small : (i : ℕ) → i < d .«dimension_size» .count → getD (d .«dimension_size» .sizes) i 0 ≤ 1000000
+  pub is-true : TrueSpace d
 
 -- every element of a list is small
 abbrev Small : List ℕ → Type 0
@@ -72,7 +74,7 @@ module _ (file : List ℕ) (w : ℕ) where
       let a = stands-bind file (dimensions n w false) _ p q d r in
       let b = stands-bind file (maximumSizes n w (bit flags 0)) _ (a .0) q d (a .3) in
       let c = dimensions-small n p (a .0) (a .1) (a .2) in
-      rw (← b .3 .1) (record { counted = c .0; few = rw (c .0) few; small = λ i _. c .1 i })
+      rw (← b .3 .1) (record { counted = c .0; few = rw (c .0) few; small = λ i _. c .1 i; is-true = refl })
 
   -- the table of version 1, and that of version 2
   table1-bounded : (p q : ℕ) (d : DataSpace) → Stands file (dataSpace1 w) p q d → Bounded d

@@ -1,13 +1,14 @@
 -- IV.A.2.b, the dataspace message: a table for version 1, and one for version 2. Assumes nothing: these are definitions.
-use Prim.Native.Nat.{ℕ, zero, suc, _+_, _*_}
+use Prim.Native.Nat.{ℕ, zero, suc, _+_}
 use mathlib.Core.Bool.{Bool, true, false, _&&_, _||_, not}
-use mathlib.Core.List.{List, [], _∷_}
-use lib.ListN.{replicate, set, take}
+use mathlib.Core.List.{List}
+use lib.ListN.{replicate, set}
 use lib.Dec.{eqb, leb}
 use Rattle.format.specs.Bits.{bit}
 use Rattle.format.specs.Bytes.{allOnes}
 use Rattle.format.specs.Format.{Format, done, refuse, number, skip, bind, check, pick}
 use Rattle.records.specs.Defaults.{noDimensions}
+use Rattle.records.specs.Elements.{elementsBy, countOf}
 use Rattle.records.specs.declared.OptionU8.the-variants as options8
 use Rattle.records.specs.declared.Dimensions.{Dimensions}
 use Rattle.records.specs.declared.DataSpace.{DataSpace}
@@ -52,9 +53,10 @@ dataSpace1 size-of-lengths =
       kind = options8.None;
       «dimension_size» = dimension-size;
       «dimension_max_size» = dimension-maximum-size;
+      elements = countOf (elementsBy options8.None dimension-size);
     })))))))))
 
--- Layout: Dataspace Message - Version 2, after its Version. Bit 0 of the flags: maximum sizes.
+-- Layout: Dataspace Message - Version 2, after its Version. Bit 0 of the flags: maximum sizes. Type 2 is a null dataspace; no type is refused.
 unfoldable pub dataSpace2 : ℕ → Format DataSpace
 dataSpace2 size-of-lengths =
     number 1 (λ dimensionality.
@@ -69,6 +71,7 @@ dataSpace2 size-of-lengths =
       kind = options8.Some type;
       «dimension_size» = dimension-size;
       «dimension_max_size» = dimension-maximum-size;
+      elements = countOf (elementsBy (options8.Some type) dimension-size);
     })))))))
 
 -- the version, and the table of that version
@@ -78,11 +81,3 @@ dataSpace s =
     pick (eqb version 1) (dataSpace1 (s .«size_of_lengths»)) (
     pick (eqb version 2) (dataSpace2 (s .«size_of_lengths»)) (
     refuse 9)))
-
--- the number of elements: the product of the sizes, 1 if there are none
-unfoldable pub product : List ℕ → ℕ
-product [] = 1
-product (n ∷ ns) = n * product ns
-
-abbrev pub elements : DataSpace → ℕ
-elements d = product (take (d .«dimension_size» .count) (d .«dimension_size» .sizes))

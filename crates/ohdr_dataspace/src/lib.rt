@@ -1,5 +1,5 @@
-// The dataspace message (ohdr_message.rs, message_data_space), and the number of a dataspace's
-// elements.
+// The dataspace message (ohdr_message.rs, message_data_space).
+use element_count::elements;
 use helpers::Place;
 use helpers::ReadU8;
 use helpers::ReadU64;
@@ -14,12 +14,13 @@ use records::Dimensions;
 use records::OptionU8;
 use records::Refusal;
 ghost use mathlib.Core.Path.{_≡_};
-ghost use Prim.Native.Nat.{ℕ, _*_, _≤_};
+ghost use Prim.Native.Nat.{ℕ, _≤_};
 ghost use Rattle.format.specs.Format.{read, refused};
 ghost use Rattle.records.specs.Refusals.{refusalNumber};
+ghost use Rattle.records.specs.Elements.{TrueSpace};
 ghost use Rattle.parser.specs.States.{Widths};
-ghost use Rattle.ohdr_dataspace.specs.DataSpaces.{dimension as dimensionFormat, dimensions as dimensionsFormat, maximumSizes, dataSpace1, dataSpace2, dataSpace, elements as elementsOf};
-ghost use Rattle.ohdr_dataspace.specs.Answers.{dimensionOut, dimensionsOut, dataSpaceSizes, fieldsOut, Few, Defaulted, dataSpaceOut, countOf};
+ghost use Rattle.ohdr_dataspace.specs.DataSpaces.{dimension as dimensionFormat, dimensions as dimensionsFormat, maximumSizes, dataSpace1, dataSpace2, dataSpace};
+ghost use Rattle.ohdr_dataspace.specs.Answers.{dimensionOut, dimensionsOut, dataSpaceSizes, fieldsOut, Few, Defaulted, dataSpaceOut};
 
 // One size, and the position after it.
 pub enum DimensionRead {
@@ -42,12 +43,6 @@ pub enum FieldsRead {
 pub struct DataSpaceRead {
     pub answer: Place,
     pub data_space: DataSpace,
-}
-
-// A number of elements, or one from 2^64 up.
-pub enum ElementCount {
-    Count(u64),
-    TooMany,
 }
 
 // One size; a maximum size may be unlimited.
@@ -122,6 +117,7 @@ fn maximum_sizes(file: &[u8], at: usize, count: u8, width: usize, present: bool)
 fn no_data_space(r: Refusal) -> DataSpaceRead
     ensures { λ a. ⌜ dataSpaceOut a ≡ refused (refusalNumber r) ⌝ }
     ensures { λ a. ⌜ Defaulted (a .answer) (a .«data_space») ⌝ }
+    ensures { λ a. ⌜ TrueSpace (a .«data_space») ⌝ }
 {
     DataSpaceRead {
         answer: Place::Refused(r),
@@ -141,6 +137,7 @@ fn data_space_sizes(
     requires { ⌜ (dimensionality ≤ 4) × (width ≤ 8) ⌝ }
     ensures { λ r. ⌜ dataSpaceOut r ≡ read (now (file .entry)) (dataSpaceSizes width dimensionality flags kind) at ⌝ }
     ensures { λ r. ⌜ Defaulted (r .answer) (r .«data_space») ⌝ }
+    ensures { λ r. ⌜ TrueSpace (r .«data_space») ⌝ }
 {
     let sizes = dimensions(file, at, dimensionality, width, false);
     let sizes_end = sizes.answer;
@@ -157,6 +154,7 @@ fn data_space_sizes(
     };
     let dimension_size = sizes.dimensions;
     let dimension_max_size = maximum.dimensions;
+    let elements = elements(kind, dimension_size);
     DataSpaceRead {
         answer: Place::At(end),
         data_space: DataSpace {
@@ -165,6 +163,7 @@ fn data_space_sizes(
             dimensionality,
             flags,
             kind,
+            elements,
         },
     }
 }
@@ -227,11 +226,12 @@ fn data_space_fields(file: &[u8], at: usize) -> FieldsRead
     }
 }
 
-// A refusal comes with the default record.
+// A refusal comes with the default record; either record is true.
 pub fn message_data_space(file: &[u8], at: usize, state: State) -> DataSpaceRead
     requires { ⌜ Widths state ⌝ }
     ensures { λ r. ⌜ dataSpaceOut r ≡ read (now (file .entry)) (dataSpace state) at ⌝ }
     ensures { λ r. ⌜ Defaulted (r .answer) (r .«data_space») ⌝ }
+    ensures { λ r. ⌜ TrueSpace (r .«data_space») ⌝ }
 {
     match data_space_fields(file, at) {
         FieldsRead::Read(dimensionality, flags, kind, sizes_at) => {
@@ -240,50 +240,4 @@ pub fn message_data_space(file: &[u8], at: usize, state: State) -> DataSpaceRead
         }
         FieldsRead::Refused(r) => no_data_space(r),
     }
-}
-
-// The product of two numbers.
-fn multiply(a: u64, b: u64) -> ElementCount
-    ensures { λ r. ⌜ r ≡ countOf (a * b) ⌝ }
-{
-    if a == 0 {
-        return ElementCount::Count(0);
-    }
-    if 0xffff_ffff_ffff_ffff / a < b {
-        return ElementCount::TooMany;
-    }
-    ElementCount::Count(a * b)
-}
-
-// `n` times as many. Too many, taken no times, are none.
-pub fn times(elements: ElementCount, n: u64) -> ElementCount
-    ensures { λ r. ⌜ ((m : ℕ) → elements ≡ countOf m → r ≡ countOf (m * n)) ⌝ }
-{
-    match elements {
-        ElementCount::Count(count) => multiply(count, n),
-        ElementCount::TooMany => {
-            if n == 0 {
-                return ElementCount::Count(0);
-            }
-            ElementCount::TooMany
-        }
-    }
-}
-
-// How many elements a dataspace has: the product of its sizes, 1 if it has none.
-pub fn elements(space: DataSpace) -> ElementCount
-    ensures { λ r. ⌜ r ≡ countOf (elementsOf space) ⌝ }
-{
-    let dimensions = space.dimension_size;
-    let n = dimensions.count as usize;
-    let mut count = ElementCount::Count(1);
-    let mut i: usize = 0;
-    while i < 4 {
-        if n <= i {
-            return count;
-        }
-        count = times(count, dimensions.sizes[i]);
-        i = i + 1;
-    }
-    count
 }

@@ -7,6 +7,7 @@ use Rattle.records.specs.declared.OptionU64.the-variants as options64
 use Rattle.records.specs.declared.Address.the-variants as addresses
 use Rattle.records.specs.declared.OptionAddress.the-variants as optionAddresses
 use Rattle.records.specs.declared.OptionDataFormat.the-variants as formats
+use Rattle.records.specs.declared.ElementCount.the-variants as counts
 use Rattle.records.specs.declared.Dimensions.{Dimensions}
 use Rattle.records.specs.declared.DataSpace.{DataSpace}
 use Rattle.records.specs.declared.LinkInfo.{LinkInfo}
@@ -19,6 +20,7 @@ use Rattle.records.specs.declared.DataLayout.{DataLayout}
 abbrev pub noDimensions : Dimensions
 noDimensions = record { sizes = replicate 4 0; count = 0 }
 
+-- without sizes it has one element
 abbrev pub defaultDataSpace : DataSpace
 defaultDataSpace =
     record {
@@ -27,6 +29,7 @@ defaultDataSpace =
       dimensionality = 0;
       flags = 0;
       kind = options8.None;
+      elements = counts.Count 1;
     }
 
 abbrev pub defaultLinkInfo : LinkInfo

@@ -3,6 +3,7 @@
 ghost use mathlib.Core.Path.{_≡_};
 ghost use Rattle.records.specs.Refusals.{refusalNumber};
 ghost use Rattle.records.specs.Numbers.{valueText};
+ghost use Rattle.records.specs.Elements.{TrueSpace};
 ghost use Rattle.records.specs.Defaults.{noDimensions, defaultDataSpace, defaultLinkInfo, defaultGroupInfo, defaultAttributeInfo, defaultDataType, defaultDataLayout};
 
 // Why a file or a header is refused. `refusalNumber` gives each its number.
@@ -173,17 +174,27 @@ impl Dimensions {
     }
 }
 
+// A number of elements, or too many for 64 bits.
+pub enum ElementCount {
+    Count(u64),
+    TooMany,
+}
+
+// The sizes of an array, and how many elements they make.
 pub struct DataSpace {
     pub dimension_size: Dimensions,
     pub dimension_max_size: Dimensions,
     pub dimensionality: u8,
     pub flags: u8,
     pub kind: OptionU8,
+    pub elements: ElementCount,
 }
 
 impl DataSpace {
+    // Without sizes it has one element.
     pub fn default() -> Self
         ensures { λ r. ⌜ r ≡ defaultDataSpace ⌝ }
+        ensures { λ r. ⌜ TrueSpace r ⌝ }
     {
         Self {
             dimension_size: Dimensions {
@@ -197,6 +208,7 @@ impl DataSpace {
             dimensionality: 0,
             flags: 0,
             kind: OptionU8::None,
+            elements: ElementCount::Count(1),
         }
     }
 }

@@ -2,7 +2,6 @@
 -- Version 2 has a table too; nothing that is read is compared with it.
 use Prim.Native.Nat.{ℕ, _+_, _*_}
 use mathlib.Core.Bool.{not, _||_}
-use mathlib.Core.List.{List, [], _∷_}
 use lib.Dec.{eqb}
 use Rattle.format.specs.Bits.{bit}
 use Rattle.format.specs.Bytes.{toMultipleOf8}
@@ -10,7 +9,7 @@ use Rattle.format.specs.Format.{Format, done, refuse, number, here, bind, pick}
 use Rattle.standard.specs.Fields.{Bytes, only, raw}
 use Rattle.standard.specs.Versions.{byVersion, marked}
 use Rattle.standard.specs.Datatypes.{Datatype, headerOf, datatypeMessage}
-use Rattle.standard.specs.Dataspaces.{Dataspace, version-1, version-2, dataspaceMessage}
+use Rattle.standard.specs.Dataspaces.{Dataspace, dataspaceMessage, elements}
 
 -- Layout: Attribute Message (Version 1), up to the name
 pub record Sizes1 : Type 0 where
@@ -87,15 +86,6 @@ module _ (longest levels size-of-lengths : ℕ) where
         dataspace = dataspace;
         dataspace-padding = dataspace-padding;
       })))))
-
--- the elements of a dataspace: a scalar one has a single element, a null one none, and else the product of the sizes of its dimensions
-unfoldable pub product : List ℕ → ℕ
-product [] = 1
-product (n ∷ ns) = n * product ns
-
-abbrev pub elements : Dataspace → ℕ
-elements (version-1 x) = product (x .dimension-size)
-elements (version-2 x) = pick (eqb (x .type) 0) 1 (pick (eqb (x .type) 2) 0 (product (x .dimension-size)))
 
 -- the size of a datatype element
 abbrev pub elementSize : Datatype → ℕ

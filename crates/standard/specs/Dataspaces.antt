@@ -1,8 +1,8 @@
 -- IV.A.2.b, the dataspace message, versions 1 and 2. Assumes nothing: these are definitions.
-use Prim.Native.Nat.{ℕ, _≤_, _<_}
+use Prim.Native.Nat.{ℕ, _*_, _≤_, _<_}
 use mathlib.Core.Path.{_≡_}
 use mathlib.Core.Bool.{Bool}
-use mathlib.Core.List.{List}
+use mathlib.Core.List.{List, [], _∷_}
 use lib.Dec.{eqb}
 use Rattle.format.specs.Bits.{bit}
 use Rattle.format.specs.Format.{Format, done, refuse, number, bind, pick}
@@ -96,3 +96,12 @@ dataspaceMessage size-of-lengths =
     pick (eqb version 1) (marked version-1 (dataspace1 size-of-lengths)) (
     pick (eqb version 2) (marked version-2 (dataspace2 size-of-lengths)) (
     refuse 0)))
+
+-- the elements of a dataspace: a scalar one has a single element, a null one none, and else the product of the sizes of its dimensions
+unfoldable pub product : List ℕ → ℕ
+product [] = 1
+product (n ∷ ns) = n * product ns
+
+abbrev pub elements : Dataspace → ℕ
+elements (version-1 x) = product (x .dimension-size)
+elements (version-2 x) = pick (eqb (x .type) 0) 1 (pick (eqb (x .type) 2) 0 (product (x .dimension-size)))

@@ -12,6 +12,7 @@ use Rattle.format.specs.Bytes.{AreBytes, le, Trimmed}
 use Rattle.format.specs.BytesLaws.{by-le}
 use Rattle.format.specs.Format.{Format, done, number, skip, here, Stands, bind, pick}
 use Rattle.format.specs.Standing.{stands-bind, stands-check, bind-stands}
+use Rattle.records.specs.Elements.{elementsOf}
 use Rattle.records.specs.declared.Value.{Value}
 use Rattle.records.specs.declared.Value.the-variants as values
 use Rattle.records.specs.declared.DataType.{DataType}
@@ -30,18 +31,17 @@ use Rattle.ohdr_attribute.specs.Attributes.{padding, textValue, listValue, othe
 use Rattle.standard.specs.Fields.{only}
 use Rattle.standard.specs.Tie.{Stood}
 use Rattle.standard.specs.Datatypes.{class, Datatype, headerOf, datatypeMessage}
-use Rattle.standard.specs.Dataspaces.{Dataspace, version-1, version-2, dataspaceMessage}
-use Rattle.standard.specs.Attributes.{sized, Described, described, product, elements, rawSize}
+use Rattle.standard.specs.Dataspaces.{Dataspace, dataspaceMessage, elements}
+use Rattle.standard.specs.Attributes.{sized, Described, described, rawSize}
 use Rattle.standard.specs.DatatypeRules.{Each}
 use Rattle.standard_datatype.specs.Same.{ScalarMembers, SameType}
 use Rattle.standard_datatype.specs.Differences.{TypeDiffers}
 use Rattle.standard_datatype.specs.Ties.{datatype-tied}
-use Rattle.standard_messages.specs.Dataspaces.{SameDataspace, dataspace-tied}
-use Rattle.standard_attribute.specs.Differences.{ElementsDiffer, scalar-with-sizes, null, ContentsDiffer, in-datatype, other-datatype-size, other-dataspace-size, other-elements, variable-length-elements, long-data}
+use Rattle.standard_messages.specs.Dataspaces.{SameDataspace, ElementsDiffer, elements-same, dataspace-tied}
+use Rattle.standard_attribute.specs.Differences.{ContentsDiffer, in-datatype, other-datatype-size, other-dataspace-size, other-elements, variable-length-elements, long-data}
 use Rattle.standard_attribute.specs.SameNumbers.{HasNumber, SameNumber}
 use Rattle.standard_attribute.specs.NumberForms.{FormIs, form-has, form-said, number-formed, number-class, number-same}
 use Rattle.standard_attribute.specs.Same.{PaddedText, SameValue}
-use Rattle.standard_attribute.specs.ReadValues.{sizesOf}
 
 -- a text that is ended by zeros has the length that is left without them
 pub padded-length : (s : List ℕ) (p m l n : ℕ) → Trimmed s p m l → PaddedText s (record { position = p; length = m }) n → l ≡ n
@@ -169,33 +169,6 @@ sized-stands s n F p q a h e =
     let i : Stands s (only (eqb q (p + n)) (done a)) q q a = rw (eq-eqb q (p + n) e) (refl, refl) in
     bind-stands s F (λ x. here (λ upto. only (eqb upto (p + n)) (done x))) p q q a a h i
 
--- the two products are one
-product-same : (ns : List ℕ) → spaces.product ns ≡ product ns
-unfolding spaces.product product
-product-same [] = refl
-product-same (n ∷ ns) = rw (product-same ns)
-
--- the sizes of a dataspace of either version
-same-sizes : (d : DataSpace) (b : Dataspace) → SameDataspace d b → take (d .«dimension_size» .count) (d .«dimension_size» .sizes) ≡ sizesOf b
-same-sizes d (version-1 x) h = h .dimension-size .size
-same-sizes d (version-2 x) h = h .dimension-size .size
-
--- the elements are the product of the sizes
-pub elements-by : (b : Dataspace) → ElementsDiffer b ⊎ (product (sizesOf b) ≡ elements b)
-unfolding product
-elements-by (version-1 x) = inr refl
-elements-by (version-2 x) = go (eqb (x .type) 0) refl (eqb (x .type) 2) refl (x .dimension-size) refl
-  where
-    go : (a : Bool) → eqb (x .type) 0 ≡ a → (b : Bool) → eqb (x .type) 2 ≡ b → (ns : List ℕ) → x .dimension-size ≡ ns
-        → ElementsDiffer (version-2 x) ⊎ (product (x .dimension-size) ≡ pick a 1 (pick b 0 (product (x .dimension-size))))
-    go true e b f [] g = inr (rw g)
-    go true e b f (n ∷ ns) g = inl (scalar-with-sizes (eqb-true (x .type) 0 e) (λ d. let z = sym g ∙ d in let y : _≡_ {A = ℕ} 1 0 = ap (λ (l : List ℕ). elim l [ [] ↦ 0 | _∷_ m ms ↦ 1 ]) z in omega arith))
-    go false e true f ns g = inl (null (eqb-true (x .type) 2 f))
-    go false e false f ns g = inr refl
-
-pub elements-same : (d : DataSpace) (b : Dataspace) → SameDataspace d b → product (sizesOf b) ≡ elements b → spaces.elements d ≡ elements b
-elements-same d b r e = product-same (take (d .«dimension_size» .count) (d .«dimension_size» .sizes)) ∙ ap product (same-sizes d b r) ∙ e
-
 module _ (s : List ℕ) (state : State) (longest : ℕ) (wide : 4095 ≤ longest) where
   abbrev theTypes : Format Datatype
   theTypes = datatypeMessage longest typeLevels
@@ -223,18 +196,17 @@ module _ (s : List ℕ) (state : State) (longest : ℕ) (wide : 4095 ≤ longest
 
     -- the data, after both descriptions
     data-tied : (p m q : ℕ) (x : Described) (t : DataType) (d : DataSpace) (v : Value) → Stands s theDescribed p m x → SameType t (x .datatype) → SameDataspace d (x .dataspace)
-        → m ≤ length s → Stands s (value t (spaces.elements d)) m q v → Contents p q v
-    data-tied p m q x t d v h i j l k = count (elements-by (x .dataspace))
+        → m ≤ length s → Stands s (value t (elementsOf d)) m q v → Contents p q v
+    data-tied p m q x t d v h i j l k = count (elements-same d (x .dataspace) j)
       where
         split : ValueTied s (x .datatype) (elements (x .dataspace)) m q v → Contents p q v
         split (other-lists a b) = inl (variable-length-elements m x h a b)
         split (too-long a b g) = inl (long-data m x h a b g)
         split (same a b g) = inr (record { contents = x; upto = m; stands = h; inside = a; end = b; members = i .members; value = g })
 
-        count : ElementsDiffer (x .dataspace) ⊎ (product (sizesOf (x .dataspace)) ≡ elements (x .dataspace)) → Contents p q v
+        count : ElementsDiffer (x .dataspace) ⊎ (elementsOf d ≡ elements (x .dataspace)) → Contents p q v
         count (inl e) = inl (other-elements m x h e)
-        count (inr e) =
-            split (subst (λ (g : ℕ). ValueTied s (x .datatype) g m q v) (elements-same d (x .dataspace) j e) (value-tied s t (x .datatype) i (spaces.elements d) m q v l k))
+        count (inr e) = split (subst (λ (g : ℕ). ValueTied s (x .datatype) g m q v) e (value-tied s t (x .datatype) i (elementsOf d) m q v l k))
 
     abbrev theContents : Datatype → ℕ → Dataspace → ℕ → Described
     theContents t a d b = record { datatype = t; datatype-padding = a; dataspace = d; dataspace-padding = b }
@@ -255,7 +227,7 @@ module _ (s : List ℕ) (state : State) (longest : ℕ) (wide : 4095 ≤ longest
     -- the dataspace's size is the one that is written, or not
     space-sized : (p m upto q : ℕ) (b : Datatype) (t : DataType) (d : DataSpace) (v : Value) → Stands s (sized datatype-size theTypes) p m b → SameType t b
         → m + pad datatype-size ≤ length s → Stood SameDataspace theSpaces s (m + pad datatype-size) upto d
-        → Stands s (skip (padding version (upto - (m + pad datatype-size))) (value t (spaces.elements d))) upto q v → Contents p q v
+        → Stands s (skip (padding version (upto - (m + pad datatype-size))) (value t (elementsOf d))) upto q v → Contents p q v
     space-sized p m upto q b t d v h i l x k = go (eqb upto (m + pad datatype-size + dataspace-size)) refl
       where
         go : (a : Bool) → eqb upto (m + pad datatype-size + dataspace-size) ≡ a → Contents p q v
@@ -263,7 +235,7 @@ module _ (s : List ℕ) (state : State) (longest : ℕ) (wide : 4095 ≤ longest
         go true e =
             let g = eqb-true upto (m + pad datatype-size + dataspace-size) e in
             let f : padding version (upto - (m + pad datatype-size)) ≡ pad dataspace-size = ap (padding version) (omega arith) ∙ same-pad dataspace-size in
-            let r : Stands s (skip (pad dataspace-size) (value t (spaces.elements d))) upto q v = rw f at k in
+            let r : Stands s (skip (pad dataspace-size) (value t (elementsOf d))) upto q v = rw f at k in
             data-tied p (upto + pad dataspace-size) q (theContents b (le s m (pad datatype-size)) (x .value) (le s upto (pad dataspace-size))) t d v
             (described-stands p m upto b (x .value) h l (sized-stands s dataspace-size theSpaces (m + pad datatype-size) upto (x .value) (x .stands) g) (r .0))
             i (x .related) (r .0) (r .1)
@@ -274,7 +246,7 @@ module _ (s : List ℕ) (state : State) (longest : ℕ) (wide : 4095 ≤ longest
     unfolding spaceValue
     space-tied p m q b t v h i l k =
         let from = m + pad datatype-size in
-        let u = stands-bind s (spaces.dataSpace state) (λ d. here (λ r. skip (padding version (r - from)) (value t (spaces.elements d)))) from q v k in
+        let u = stands-bind s (spaces.dataSpace state) (λ d. here (λ r. skip (padding version (r - from)) (value t (elementsOf d)))) from q v k in
         space-sized p m (u .0) q b t (u .1) v h i l (dataspace-tied state .ties s from (u .0) (u .1) (u .2)) (u .3)
 
     -- the datatype's size is the one that is written, or not

@@ -3,7 +3,7 @@
 use Prim.Native.Nat.{ℕ, _+_, _<_}
 use mathlib.Core.Path.{_≡_}
 use mathlib.Core.Bool.{true, _||_}
-use mathlib.Core.List.{List, []}
+use mathlib.Core.List.{List}
 use Rattle.format.specs.Bits.{bit}
 use Rattle.format.specs.Bytes.{toMultipleOf8}
 use Rattle.format.specs.Format.{Stands}
@@ -12,16 +12,10 @@ use Rattle.parser.specs.declared.State.{State}
 use Rattle.ohdr_datatype.specs.DataTypes.{typeLevels}
 use Rattle.ohdr_attribute.specs.Attributes.{typeSpaceValue}
 use Rattle.standard.specs.Datatypes.{class, Datatype, headerOf, datatypeMessage}
-use Rattle.standard.specs.Dataspaces.{Dataspace2, Dataspace, version-2, dataspaceMessage}
-use Rattle.standard.specs.Attributes.{Sizes1, sizes1, Sizes3, sizes3, sized, Described, described, elements, rawSize}
+use Rattle.standard.specs.Dataspaces.{Dataspace, dataspaceMessage, elements}
+use Rattle.standard.specs.Attributes.{Sizes1, sizes1, Sizes3, sizes3, sized, Described, described, rawSize}
 use Rattle.standard_datatype.specs.Differences.{TypeDiffers}
-
--- the elements of a dataspace are not the product of the sizes of its dimensions
-pub data ElementsDiffer : Dataspace → Type 0 where
-  -- 26: a scalar dataspace with dimensions
-  scalar-with-sizes : {x : Dataspace2} → x .type ≡ 0 → (x .dimension-size ≡ [] → ⊥) → ElementsDiffer (version-2 x)
-  -- 27: a null dataspace
-  null : {x : Dataspace2} → x .type ≡ 2 → ElementsDiffer (version-2 x)
+use Rattle.standard_messages.specs.Dataspaces.{ElementsDiffer}
 
 -- over a file, the widths, and the longest name that is asked for
 module _ (s : List ℕ) (state : State) (longest : ℕ) where
@@ -38,7 +32,7 @@ module _ (s : List ℕ) (state : State) (longest : ℕ) where
     other-dataspace-size : (m q : ℕ) (t : Datatype) (d : Dataspace) → Stands s (sized datatype-size (datatypeMessage longest typeLevels)) p m t
         → Stands s (dataspaceMessage (state .«size_of_lengths»)) (m + padding datatype-size) q d → (q ≡ m + padding datatype-size + dataspace-size → ⊥)
         → ContentsDiffer version padding datatype-size dataspace-size p
-    -- 26 and 27
+    -- 26
     other-elements : (m : ℕ) (x : Described) → Stands s (described longest typeLevels (state .«size_of_lengths») padding datatype-size dataspace-size) p m x
         → ElementsDiffer (x .dataspace) → ContentsDiffer version padding datatype-size dataspace-size p
     -- 60: elements of variable length, other than one

@@ -1,7 +1,7 @@
 -- A dataspace message of the standard is read, over the same bytes and with the same elements, where no value in it is refused. Assumes nothing.
 use Prim.Native.Nat.{ℕ, zero, suc, _+_, _≤_}
 use mathlib.Core.Path.{_≡_, refl, _∙_}
-use mathlib.Core.Logic.{_⊎_, inl, inr}
+use mathlib.Core.Logic.{_⊎_, inl, inr, ⊎-elim}
 use mathlib.Core.Bool.{Bool, true, false, _&&_, _||_}
 use mathlib.Core.List.{List, [], _∷_}
 use native.Mathlib.Omega.{arith}
@@ -16,6 +16,7 @@ use Rattle.format.specs.Standing.{stands-bind, stands-check, bind-stands}
 use Rattle.records.specs.declared.OptionU8.{OptionU8}
 use Rattle.records.specs.declared.OptionU8.the-variants as options8
 use Rattle.records.specs.Defaults.{noDimensions}
+use Rattle.records.specs.Elements.{elementsOf, elementsBy, countOf}
 use Rattle.records.specs.declared.Dimensions.{Dimensions}
 use Rattle.records.specs.declared.DataSpace.{DataSpace}
 use Rattle.parser.specs.declared.State.{State}
@@ -25,12 +26,9 @@ use Rattle.ohdr_dataspace.specs.Answers.{dataSpaceSizes}
 use Rattle.standard.specs.Fields.{many}
 use Rattle.standard.specs.Tie.{Every}
 use Rattle.standard.specs.Versions.{byVersion, marked}
-use Rattle.standard.specs.Dataspaces.{Stored, not-stored, stored, storedSizes, Dataspace1, dataspace1, Dataspace2, dataspace2, Dataspace, version-1, version-2, dataspaceMessage}
-use Rattle.standard.specs.Attributes.{product, elements}
-use Rattle.standard_messages.specs.Dataspaces.{SameDataspace, dataspace-tied}
-use Rattle.standard_attribute.specs.Differences.{ElementsDiffer}
-use Rattle.standard_attribute.specs.ReadValues.{sizesOf, EachStored, ReadSpace}
-use Rattle.standard_attribute.specs.Contents.{elements-by, elements-same}
+use Rattle.standard.specs.Dataspaces.{Stored, not-stored, stored, storedSizes, Dataspace1, dataspace1, Dataspace2, dataspace2, Dataspace, version-1, version-2, dataspaceMessage, elements}
+use Rattle.standard_messages.specs.Dataspaces.{SameDataspace, ElementsDiffer, elements-same, dataspace-tied}
+use Rattle.standard_attribute.specs.ReadValues.{EachStored, ReadSpace}
 
 -- what the port tests of one size
 abbrev allowed : ℕ → Bool → ℕ → Bool
@@ -94,7 +92,7 @@ module _ (s : List ℕ) (w : ℕ) where
   rest-read n flags kind p m q ns x i j a b =
       let d = dimensions-read n false p m ns i (every (size-allowed w) ns a) in
       let e = maximum-read n (bit flags 0) m q x j (stored-allowed x b) in
-      let r : DataSpace = record { dimensionality = n; flags = flags; kind = kind; «dimension_size» = d .0; «dimension_max_size» = e .0 } in (
+      let r : DataSpace = record { dimensionality = n; flags = flags; kind = kind; «dimension_size» = d .0; «dimension_max_size» = e .0; elements = countOf (elementsBy kind (d .0)) } in (
         r,
         bind-stands s (dimensions n w false) _ p m q (d .0) r (d .1) (bind-stands s (maximumSizes n w (bit flags 0)) _ m q q (e .0) r (e .1) (refl, refl)),
       )
@@ -173,16 +171,12 @@ message-read s state p q x h r = go (eqb (h .1) 1) (eqb (h .1) 2) refl refl (h .
         (d .0, (h .2 .0, rw (h .2 .1 .1, e, f) (d .1)))
     go false false e f i = absurd i
 
--- It has as many elements as the standard's, unless the two count them otherwise.
+-- It has as many elements as the standard's, unless it is a scalar one with sizes.
 pub space-read : (s : List ℕ) (state : State) (p q : ℕ) (x : Dataspace) → Stands s (dataspaceMessage (state .«size_of_lengths»)) p q x → ReadSpace (state .«size_of_lengths») x
-    → (ElementsDiffer x → ⊥) → (d : DataSpace) × Stands s (dataSpace state) p q d × (spaces.elements d ≡ elements x)
+    → (ElementsDiffer x → ⊥) → (d : DataSpace) × Stands s (dataSpace state) p q d × (elementsOf d ≡ elements x)
 space-read s state p q x h r f =
     let d = message-read s state p q x h r in
     let y = dataspace-tied state .ties s p q (d .0) (d .1) in
     let e = unique s (dataspaceMessage (state .«size_of_lengths»)) p q q (y .value) x (y .stands) h .1 in
     let i : SameDataspace (d .0) x = rw e at (y .related) in
-    (d .0, d .1, elements-same (d .0) x i (counted (elements-by x)))
-  where
-    counted : ElementsDiffer x ⊎ (product (sizesOf x) ≡ elements x) → product (sizesOf x) ≡ elements x
-    counted (inl d) = absurd (f d)
-    counted (inr e) = e
+    (d .0, d .1, ⊎-elim (λ n. absurd (f n)) (λ e. e) (elements-same (d .0) x i))

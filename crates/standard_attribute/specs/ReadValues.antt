@@ -14,12 +14,12 @@ use Rattle.ohdr_attribute.specs.Attributes.{attribute}
 use Rattle.standard.specs.Fields.{Bytes}
 use Rattle.standard.specs.Tie.{Every}
 use Rattle.standard.specs.Datatypes.{class, headerOf}
-use Rattle.standard.specs.Dataspaces.{Stored, not-stored, stored, Dataspace, version-1, version-2}
-use Rattle.standard.specs.Attributes.{Described, elements, elementSize, Attribute, of-version-1, of-version-3}
+use Rattle.standard.specs.Dataspaces.{Stored, not-stored, stored, Dataspace, version-1, version-2, elements}
+use Rattle.standard.specs.Attributes.{Described, elementSize, Attribute, of-version-1, of-version-3}
 use Rattle.standard_datatype.specs.ReadTypes.{ReadFloat}
 use Rattle.standard_datatype.specs.Same.{propertiesOf}
+use Rattle.standard_messages.specs.Dataspaces.{ElementsDiffer}
 use Rattle.standard_attribute.specs.SameNumbers.{HasNumber, SameNumber}
-use Rattle.standard_attribute.specs.Differences.{ElementsDiffer}
 use Rattle.standard_attribute.specs.Same.{Less, SameName}
 
 -- fields of a dataspace of either version
@@ -82,7 +82,7 @@ pub record TextDescribed (w : ℕ) (x : Described) : Type 0 where
   pub small-size : elementSize (x .datatype) < 64
   -- 19, 20, 21 and 24
   pub dataspace : ReadSpace w (x .dataspace)
-  -- 26 and 27: no scalar dataspace with dimensions, and no null dataspace
+  -- 26: no scalar dataspace with sizes
   pub elements : ElementsDiffer (x .dataspace) → ⊥
 
 -- Datatype and dataspace of a number that is read, of which the same is in the standard's format
@@ -94,7 +94,7 @@ pub record NumberDescribed (w : ℕ) (x : Described) : Type 0 where
   pub float : ReadFloat (propertiesOf (x .datatype))
   -- 19, 20, 21 and 24
   pub dataspace : ReadSpace w (x .dataspace)
-  -- 26 and 27
+  -- 26
   pub elements-same : ElementsDiffer (x .dataspace) → ⊥
 
 -- An attribute whose data are handed out, described as D says. That it is of version 1 or 3 (48), without a shared datatype or dataspace (50), is in

@@ -6,6 +6,7 @@ use mathlib.Core.List.{List, [], _∷_, _++_}
 use native.Mathlib.Omega.{arith}
 use Rattle.format.specs.Bytes.{le, textLength}
 use Rattle.format.specs.Format.{read, bind}
+use Rattle.records.specs.Elements as counted
 use Rattle.parser.specs.declared.State.{State}
 use Rattle.ohdr_datatype.specs.DataTypes.{knownClass, knownType, dataTypeHeader, plain, typeLayer, dataType}
 use Rattle.ohdr_datatype.specs.DataTypes as types
@@ -15,8 +16,8 @@ use Rattle.standard.specs.Fields.{many, raw}
 use Rattle.standard.specs.Untested.{Untested}
 use Rattle.standard.specs.Versions.{byVersion, marked}
 use Rattle.standard.specs.Datatypes.{datatypeHeader, datatype, no-properties, properties, datatypeOf, datatypeMessage}
-use Rattle.standard.specs.Dataspaces.{not-stored, storedSizes, dataspace1, dataspace2, version-1, version-2, dataspaceMessage}
-use Rattle.standard.specs.Attributes.{sizes1, sizes3, sized, described, product, Attribute3, attribute1, attribute3}
+use Rattle.standard.specs.Dataspaces.{not-stored, storedSizes, dataspace1, dataspace2, version-1, version-2, dataspaceMessage, product}
+use Rattle.standard.specs.Attributes.{sizes1, sizes3, sized, described, Attribute3, attribute1, attribute3}
 use Rattle.standard.specs.AttributeRules.{ValidAttribute1, ValidAttribute3}
 
 -- lengths of 2 bytes
@@ -25,7 +26,7 @@ state = record { «size_of_lengths» = 2; «size_of_offsets» = 2; «end_of_file
 
 -- 51: version 1 with a reserved byte of 255
 pub reserved-untested : Untested ValidAttribute1 (attribute state) (attribute1 4095 1 2)
-unfolding read bind le many raw byVersion marked datatypeHeader properties datatypeOf datatypeMessage storedSizes dataspace1 dataspace2 dataspaceMessage sizes1 sized described product attribute1 textLength knownClass knownType dataTypeHeader plain typeLayer dataType types.properties spaces.dataSpace spaces.dataSpace1 spaces.dimensions spaces.dimensionsFrom spaces.dimension spaces.maximumSizes spaces.product textValue value spaceValue typeSpaceValue nameAndValue encoding attributeFields attribute
+unfolding read bind le many raw byVersion marked datatypeHeader properties datatypeOf datatypeMessage storedSizes dataspace1 dataspace2 dataspaceMessage sizes1 sized described product attribute1 textLength knownClass knownType dataTypeHeader plain typeLayer dataType types.properties spaces.dataSpace spaces.dataSpace1 spaces.dimensions spaces.dimensionsFrom spaces.dimension spaces.maximumSizes counted.product textValue value spaceValue typeSpaceValue nameAndValue encoding attributeFields attribute
 reserved-untested =
     record {
       file = (1 ∷ 255 ∷ 1 ∷ 0 ∷ 8 ∷ 0 ∷ 8 ∷ 0 ∷ []) ++ (0 ∷ 0 ∷ 0 ∷ 0 ∷ 0 ∷ 0 ∷ 0 ∷ 0 ∷ []) ++ (0x13 ∷ 0 ∷ 0 ∷ 0 ∷ 1 ∷ 0 ∷ 0 ∷ 0 ∷ []) ++ (1 ∷ 0 ∷ 0 ∷ 0 ∷ 0 ∷ 0 ∷ 0 ∷ 0 ∷ []) ++ (0x76 ∷ []);
@@ -67,7 +68,7 @@ message3 set =
 
 -- 54: the character set 255; and 55: a name without its zero
 pub version-3-untested : Untested ValidAttribute3 (attribute state) (attribute3 4095 1 2) × Untested ValidAttribute3 (attribute state) (attribute3 4095 1 2)
-unfolding read bind le many raw byVersion marked datatypeHeader properties datatypeOf datatypeMessage storedSizes dataspace1 dataspace2 dataspaceMessage sizes3 sized described product attribute3 textLength knownClass knownType dataTypeHeader plain typeLayer dataType types.properties spaces.dataSpace spaces.dataSpace2 spaces.dimensions spaces.dimensionsFrom spaces.dimension spaces.maximumSizes spaces.product textValue value spaceValue typeSpaceValue nameAndValue encoding attributeFields attribute
+unfolding read bind le many raw byVersion marked datatypeHeader properties datatypeOf datatypeMessage storedSizes dataspace1 dataspace2 dataspaceMessage sizes3 sized described product attribute3 textLength knownClass knownType dataTypeHeader plain typeLayer dataType types.properties spaces.dataSpace spaces.dataSpace2 spaces.dimensions spaces.dimensionsFrom spaces.dimension spaces.maximumSizes counted.product textValue value spaceValue typeSpaceValue nameAndValue encoding attributeFields attribute
 version-3-untested = (
   record { file = file3 255 0; end = 23; message = message3 255; read-here = refl; standard = refl; broken = λ v. omega (arith, v .name-character-set-encoding) },
   record {

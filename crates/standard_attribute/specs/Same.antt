@@ -15,7 +15,8 @@ use Rattle.standard.specs.Datatypes.{class, Datatype, headerOf}
 use Rattle.standard.specs.DatatypeRules.{Each}
 use Rattle.standard.specs.AttributeRules.{NullTerminated}
 use Rattle.standard_datatype.specs.Same.{ScalarMembers}
-use Rattle.standard.specs.Attributes.{Sizes1, sizes1, Sizes3, sizes3, Described, elements, Attribute, of-version-1, of-version-3}
+use Rattle.standard.specs.Dataspaces.{elements}
+use Rattle.standard.specs.Attributes.{Sizes1, sizes1, Sizes3, sizes3, Described, Attribute, of-version-1, of-version-3}
 use Rattle.standard_attribute.specs.SameNumbers.{HasNumber, SameNumber}
 
 -- a part of the file is the bytes of a field, less the zeros at their end

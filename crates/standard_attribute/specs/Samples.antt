@@ -4,6 +4,7 @@ use mathlib.Core.Path.{_≡_, refl}
 use mathlib.Core.List.{List, [], _∷_, _++_}
 use Rattle.format.specs.Bytes.{le, textLength}
 use Rattle.format.specs.Format.{Out, found, refused, read, bind}
+use Rattle.records.specs.Elements as counted
 use Rattle.records.specs.declared.Value.the-variants as values
 use Rattle.records.specs.declared.Attribute as ours
 use Rattle.parser.specs.declared.State.{State}
@@ -14,8 +15,8 @@ use Rattle.ohdr_attribute.specs.Attributes.{textValue, value, spaceValue, typeS
 use Rattle.standard.specs.Fields.{Bytes, many, raw}
 use Rattle.standard.specs.Versions.{byVersion, marked}
 use Rattle.standard.specs.Datatypes.{datatypeHeader, properties, datatypeOf, datatypeMessage}
-use Rattle.standard.specs.Dataspaces.{storedSizes, dataspace1, dataspace2, dataspaceMessage}
-use Rattle.standard.specs.Attributes.{sizes1, sizes3, sized, described, product, attribute1, attribute3, attributeMessage}
+use Rattle.standard.specs.Dataspaces.{storedSizes, dataspace1, dataspace2, dataspaceMessage, product}
+use Rattle.standard.specs.Attributes.{sizes1, sizes3, sized, described, attribute1, attribute3, attributeMessage}
 use Rattle.standard_attribute.specs.ReadValues.{dataOf}
 
 -- lengths of 2 bytes
@@ -42,10 +43,8 @@ pub record Sample : Type 0 where
 
 abbrev pub samples : List Sample
 samples =
-    -- 26: a scalar dataspace with a dimension
+    -- 26: a scalar dataspace with a size
     record { file = attribute3Of 6 (2 ∷ 1 ∷ 0 ∷ 0 ∷ 2 ∷ 0 ∷ []); standard = found (record { position = 24; length = 1 }) 25; read-here = found (valued 24 2) 26 }
-    -- 27: a null dataspace
-    ∷ record { file = attribute3Of 4 (2 ∷ 0 ∷ 0 ∷ 2 ∷ []); standard = found (record { position = 22; length = 0 }) 22; read-here = found (valued 22 1) 23 }
     -- 53: sizes of 0 are written for datatype and dataspace
     ∷ record {
       file = (3 ∷ 0 ∷ 1 ∷ 0 ∷ 0 ∷ 0 ∷ 0 ∷ 0 ∷ 0 ∷ 0 ∷ []) ++ (0x13 ∷ 0 ∷ 0 ∷ 0 ∷ 1 ∷ 0 ∷ 0 ∷ 0 ∷ []) ++ (2 ∷ 0 ∷ 0 ∷ 0 ∷ 0x76 ∷ []);
@@ -65,5 +64,5 @@ unfolding read bind le many raw byVersion marked datatypeHeader properties datat
 samples-standard = refl
 
 pub samples-here : each (λ (x : Sample). read (x .file) (attribute state) 0) samples ≡ each (λ (x : Sample). x .read-here) samples
-unfolding read bind le textLength knownClass knownType dataTypeHeader plain typeLayer dataType types.properties spaces.dataSpace spaces.dataSpace2 spaces.dimensions spaces.dimensionsFrom spaces.dimension spaces.maximumSizes spaces.product textValue value spaceValue typeSpaceValue nameAndValue encoding attributeFields attribute
+unfolding read bind le textLength knownClass knownType dataTypeHeader plain typeLayer dataType types.properties spaces.dataSpace spaces.dataSpace2 spaces.dimensions spaces.dimensionsFrom spaces.dimension spaces.maximumSizes counted.product textValue value spaceValue typeSpaceValue nameAndValue encoding attributeFields attribute
 samples-here = refl

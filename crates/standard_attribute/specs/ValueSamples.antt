@@ -1,4 +1,4 @@
--- A text and a number of each version of the attribute message: what `text-value` and `number-value` ask is met, and the value is the standard's. Assumes nothing.
+-- A text and a number of each version of the attribute message, and a text with a null dataspace: what `text-value` and `number-value` ask is met, and the value is the standard's. Assumes nothing.
 use Prim.Native.Nat.{ℕ, zero, suc}
 use mathlib.Core.Path.{_≡_, refl}
 use mathlib.Core.Logic.{inl, inr}
@@ -16,10 +16,10 @@ use Rattle.parser.specs.declared.State.{State}
 use Rattle.standard.specs.Fields.{many, raw}
 use Rattle.standard.specs.Versions.{byVersion, marked}
 use Rattle.standard.specs.Datatypes.{datatypeHeader, datatype, fixedPoint, fixed-point, floatingPoint, floating-point, no-properties, properties, datatypeOf, datatypeMessage}
-use Rattle.standard.specs.Dataspaces.{not-stored, stored, storedSizes, dataspace1, dataspace2, version-1, version-2, dataspaceMessage}
-use Rattle.standard.specs.Attributes.{sizes1, sizes3, sized, described, product, Attribute, of-version-1, of-version-3, attribute1, attribute3, attributeMessage}
+use Rattle.standard.specs.Dataspaces.{not-stored, stored, storedSizes, dataspace1, dataspace2, version-1, version-2, dataspaceMessage, product}
+use Rattle.standard.specs.Attributes.{sizes1, sizes3, sized, described, Attribute, of-version-1, of-version-3, attribute1, attribute3, attributeMessage}
 use Rattle.standard_datatype.specs.ReadTypes.{single}
-use Rattle.standard_attribute.specs.Differences.{ElementsDiffer, scalar-with-sizes, null}
+use Rattle.standard_messages.specs.Dataspaces.{ElementsDiffer, scalar-with-sizes}
 use Rattle.standard_attribute.specs.ReadValues.{describedOf, TextValue, TextIs, NumberValue, NumberIs, ValueStands}
 use Rattle.standard_attribute.specs.Values.{text-value, number-value}
 
@@ -103,11 +103,50 @@ met3 =
   where
     simple : ElementsDiffer (describedOf text3 .dataspace) → ⊥
     simple (scalar-with-sizes e f) = omega arith
-    simple (null e) = omega arith
 
 pub a-text-of-version-3 : ValueStands file3 state 0 31 (record { position = 9; length = 2 }) (TextIs file3 (describedOf text3) (record { position = 27; length = 4 }))
 unfolding read bind le many raw byVersion marked datatypeHeader properties datatypeOf datatypeMessage storedSizes dataspace1 dataspace2 dataspaceMessage sizes1 sizes3 sized described product attribute1 attribute3 attributeMessage
 a-text-of-version-3 = text-value file3 state 4095 1 0 31 text3 (sound file3 (attributeMessage 4095 1 2) 0 31 text3 refl) met3
+
+-- version 3, a name `n`, strings of 2 bytes, a null dataspace with a size of 2, no data, and a byte behind it
+abbrev file-null : List ℕ
+file-null =
+    (3 ∷ 0 ∷ 2 ∷ 0 ∷ 8 ∷ 0 ∷ 6 ∷ 0 ∷ 0 ∷ 0x6E ∷ 0 ∷ []) ++ (0x13 ∷ 0 ∷ 0 ∷ 0 ∷ 2 ∷ 0 ∷ 0 ∷ 0 ∷ []) ++ (2 ∷ 1 ∷ 0 ∷ 2 ∷ 2 ∷ 0 ∷ [])
+    ++ (0x61 ∷ [])
+
+abbrev text-null : Attribute
+text-null =
+    of-version-3 (record {
+      sizes = record { version = 3; flags = 0; name-size = 2; datatype-size = 8; dataspace-size = 6; name-character-set-encoding = 0 };
+      name = record { position = 9; length = 2 };
+      described = record {
+        datatype = datatype (record { class-and-version = 0x13; class-bit-field = 0; size = 2 }) no-properties;
+        datatype-padding = 0;
+        dataspace = version-2 (record { version = 2; dimensionality = 1; flags = 0; type = 2; dimension-size = 2 ∷ []; dimension-maximum-size = not-stored });
+        dataspace-padding = 0;
+      };
+      «data» = record { position = 25; length = 0 };
+    })
+
+met-null : TextValue 2 text-null
+met-null =
+    record {
+      name-size = omega arith;
+      described = record {
+        string = refl;
+        some-size = omega arith;
+        small-size = omega arith;
+        dataspace = record { few = omega arith; sizes = (omega arith, tt); maximum-sizes = tt; no-permutation = refl };
+        elements = no-scalar;
+      };
+    }
+  where
+    no-scalar : ElementsDiffer (describedOf text-null .dataspace) → ⊥
+    no-scalar (scalar-with-sizes e f) = omega arith
+
+pub a-text-of-a-null-dataspace : ValueStands file-null state 0 25 (record { position = 9; length = 2 }) (TextIs file-null (describedOf text-null) (record { position = 25; length = 0 }))
+unfolding read bind le many raw byVersion marked datatypeHeader properties datatypeOf datatypeMessage storedSizes dataspace1 dataspace2 dataspaceMessage sizes1 sizes3 sized described product attribute1 attribute3 attributeMessage
+a-text-of-a-null-dataspace = text-value file-null state 4095 1 0 25 text-null (sound file-null (attributeMessage 4095 1 2) 0 25 text-null refl) met-null
 
 -- a list whose numbers are bytes, by looking at each
 abbrev bytes : List ℕ → Bool
@@ -198,7 +237,6 @@ met-signed =
   where
     simple : ElementsDiffer (describedOf signed3 .dataspace) → ⊥
     simple (scalar-with-sizes e f) = omega arith
-    simple (null e) = omega arith
 
 pub a-number-of-version-3 : ValueStands file-signed state 0 31 (record { position = 9; length = 2 }) (NumberIs file-signed (describedOf signed3) (record { position = 29; length = 2 }))
 unfolding read bind le many raw byVersion marked datatypeHeader fixedPoint properties datatypeOf datatypeMessage storedSizes dataspace1 dataspace2 dataspaceMessage sizes1 sizes3 sized described product attribute1 attribute3 attributeMessage

@@ -16,6 +16,7 @@ use Rattle.format.specs.Format.{Format, done, refuse, skip, here, bind, pick, S
 use Rattle.format.specs.Laws.{unique}
 use Rattle.format.specs.Standing.{stands-bind, stands-check, bind-stands}
 use Rattle.records.specs.declared.Part.{Part}
+use Rattle.records.specs.Elements.{elementsOf}
 use Rattle.records.specs.declared.Value.{Value}
 use Rattle.records.specs.declared.Value.the-variants as values
 use Rattle.records.specs.declared.Attribute as ours
@@ -35,14 +36,14 @@ use Rattle.ohdr_attribute.specs.Without.{with-or-without}
 use Rattle.standard.specs.Fields.{Bytes, only, raw}
 use Rattle.standard.specs.Versions.{byVersion, marked}
 use Rattle.standard.specs.Datatypes.{headerOf, datatypeMessage}
-use Rattle.standard.specs.Dataspaces.{dataspaceMessage}
-use Rattle.standard.specs.Attributes.{Sizes1, sizes1, Sizes3, sizes3, sized, Described, described, elements, elementSize, rawSize, Attribute1, attribute1, Attribute3, attribute3, Attribute, of-version-1, of-version-3, attributeMessage}
+use Rattle.standard.specs.Dataspaces.{dataspaceMessage, elements}
+use Rattle.standard.specs.Attributes.{Sizes1, sizes1, Sizes3, sizes3, sized, Described, described, elementSize, rawSize, Attribute1, attribute1, Attribute3, attribute3, Attribute, of-version-1, of-version-3, attributeMessage}
+use Rattle.standard_messages.specs.Dataspaces.{ElementsDiffer}
 use Rattle.standard_attribute.specs.ReadValues.{ReadSpace, TextDescribed, TextValue, NumberDescribed, NumberValue, TextIs, NumberIs, ValueStands, nameSizeOf, describedOf, nameOf, dataOf}
 use Rattle.standard_attribute.specs.Ties.{ourName, same-name}
 use Rattle.standard_attribute.specs.ReadSpaces.{space-read}
 use Rattle.standard_attribute.specs.ReadElements.{elementType, string-read, number-read}
 use Rattle.standard_attribute.specs.NumberForms.{form-said, number-formed, number-same, number-class, has-class}
-use Rattle.standard_attribute.specs.Differences.{ElementsDiffer}
 
 -- what has the size that is written for it stands, and ends there
 sized-ends : {A : Type 0} (s : List ℕ) (n : ℕ) (F : Format A) (p q : ℕ) (a : A) → Stands s (sized n F) p q a → Stands s F p q a × (q ≡ p + n)
@@ -63,10 +64,10 @@ module _ (s : List ℕ) (state : State) where
 
   -- the dataspace and its padding, and the value
   space-value : (version k p m u q : ℕ) (t : DataType) (d : DataSpace) (Is : Value → Type 0) → Stands s (spaces.dataSpace state) p m d → padding version (m - p) ≡ k → m + k ≡ u → u ≤ length s
-      → Valued (value t (spaces.elements d)) u q Is → Valued (spaceValue version state t) p q Is
+      → Valued (value t (elementsOf d)) u q Is → Valued (spaceValue version state t) p q Is
   unfolding spaceValue
   space-value version k p m u q t d Is h f g j x =
-      (x .0, x .1, bind-stands s (spaces.dataSpace state) (λ d. here (λ upto. skip (padding version (upto - p)) (value t (spaces.elements d)))) p m q d _ h (rw (f, g) (j, x .2)))
+      (x .0, x .1, bind-stands s (spaces.dataSpace state) (λ d. here (λ upto. skip (padding version (upto - p)) (value t (elementsOf d)))) p m q d _ h (rw (f, g) (j, x .2)))
 
   -- the datatype and its padding, and what follows it
   type-value : (version k p m q : ℕ) (t : DataType) (Is : Value → Type 0) → Stands s (dataType typeLevels) p m t → padding version (m - p) ≡ k → m + k ≤ length s
@@ -99,7 +100,7 @@ module _ (s : List ℕ) (state : State) where
       (a .3 .0)
       (space-value version (pad dataspace-size) from (b .0) u q (z .0) (y .0) Is (y .1)
       (ap (padding version) (omega (arith, d .1)) ∙ same-pad dataspace-size)
-      (b .3 .1 .0) (omega arith) (values (z .0) (spaces.elements (y .0)) (z .1) (y .2 ∙ ap (λ (z : Described). elements (z .dataspace)) e)))
+      (b .3 .1 .0) (omega arith) (values (z .0) (elementsOf (y .0)) (z .1) (y .2 ∙ ap (λ (z : Described). elements (z .dataspace)) e)))
 
   -- the fields before the name, in version 1 and in version 3
   fields1-read : (p q : ℕ) (x : Sizes1) → Stands s sizes1 p q x → x .name-size ≤ 4096 → Stands s attributeFields p q (record { version = 1; «name_size» = x .name-size })

@@ -2,17 +2,20 @@
 -- Entries are those of docs/DIFFERENCES.md, part one. Assumes nothing.
 use Prim.Native.Nat.{ℕ, zero, suc, _+_, _≤_}
 use mathlib.Core.Path.{_≡_, refl, sym, ap, _∙_}
+use mathlib.Core.Logic.{_⊎_, inl, inr, ⊎-elim}
 use mathlib.Core.Bool.{Bool, true, false, not, _&&_, _||_}
-use mathlib.Core.List.{List, _∷_, _++_}
+use mathlib.Core.List.{List, [], _∷_, _++_}
 use native.Mathlib.Omega.{arith}
 use lib.ListN.{length, take, drop, set, replicate}
 use lib.Seq.{sets, sets-eq, take-append-seam}
 use lib.Dec.{eqb, leb}
-use borrow.Author.Tests.{leb-true, not-true}
+use borrow.Author.Tests.{eqb-true, leb-true, not-true}
 use Rattle.format.specs.Bits.{bit}
 use Rattle.format.specs.Bytes.{allOnes}
-use Rattle.format.specs.Format.{Format, done, number, bind}
+use Rattle.format.specs.Format.{Format, done, number, bind, pick}
 use Rattle.records.specs.Defaults.{noDimensions}
+use Rattle.records.specs.Elements.{elementsBy, elementsOf, countOf}
+use Rattle.records.specs.Elements as ours
 use Rattle.records.specs.declared.OptionU8.the-variants as options8
 use Rattle.records.specs.declared.Dimensions.{Dimensions}
 use Rattle.records.specs.declared.DataSpace.{DataSpace}
@@ -21,7 +24,7 @@ use Rattle.ohdr_dataspace.specs.DataSpaces.{dimension, dimensionsFrom, dimensio
 use Rattle.standard.specs.Fields.{many}
 use Rattle.standard.specs.Tie.{Tied, tied-done, tied-number, tied-skip-number, tied-check, tied-bind, tied-more, tied-after}
 use Rattle.standard.specs.Versions.{ofVersion, marked, tied-of-version, tied-version, tied-marked}
-use Rattle.standard.specs.Dataspaces.{Stored, not-stored, stored, storedSizes, Dataspace1, dataspace1, Dataspace2, dataspace2, Dataspace, version-1, version-2, dataspaceMessage}
+use Rattle.standard.specs.Dataspaces.{Stored, not-stored, stored, storedSizes, Dataspace1, dataspace1, Dataspace2, dataspace2, Dataspace, version-1, version-2, dataspaceMessage, product, elements}
 
 -- the sizes of the dimensions
 pub record SameSizes (ours : Dimensions) (theirs : List ℕ) : Type 0 where
@@ -33,6 +36,11 @@ abbrev pub SameMaximum : Dimensions → Stored → Type 0
 SameMaximum ours not-stored = ours ≡ noDimensions
 SameMaximum ours (stored sizes) = SameSizes ours sizes
 
+-- the elements of a dataspace are not those of the standard's
+pub data ElementsDiffer : Dataspace → Type 0 where
+  -- 26: a scalar dataspace with sizes, which here has as many elements as they make
+  scalar-with-sizes : {x : Dataspace2} → x .type ≡ 0 → (x .dimension-size ≡ [] → ⊥) → ElementsDiffer (version-2 x)
+
 -- IV.A.2.b, version 1; reserved bits of the flags are kept, reserved bytes passed over (entry 25); permutation indices are refused (24)
 pub record SameDataspace1 (ours : DataSpace) (theirs : Dataspace1) : Type 0 where
   pub dimensionality : ours .dimensionality ≡ theirs .dimensionality
@@ -41,18 +49,53 @@ pub record SameDataspace1 (ours : DataSpace) (theirs : Dataspace1) : Type 0 wher
   pub dimension-size : SameSizes (ours .«dimension_size») (theirs .dimension-size)
   pub dimension-maximum-size : SameMaximum (ours .«dimension_max_size») (theirs .dimension-maximum-size)
   pub no-permutation-index : theirs .permutation-index ≡ not-stored
+  pub elements : ours .elements ≡ countOf (elements (version-1 theirs))
 
--- version 2; reserved bits of the flags are kept (entry 25), and the type is not tested (26)
+-- version 2; reserved bits of the flags are kept (entry 25), and the type is not tested (26); a null dataspace has no elements
 pub record SameDataspace2 (ours : DataSpace) (theirs : Dataspace2) : Type 0 where
   pub dimensionality : ours .dimensionality ≡ theirs .dimensionality
   pub flags : ours .flags ≡ theirs .flags
   pub type : ours .kind ≡ options8.Some (theirs .type)
   pub dimension-size : SameSizes (ours .«dimension_size») (theirs .dimension-size)
   pub dimension-maximum-size : SameMaximum (ours .«dimension_max_size») (theirs .dimension-maximum-size)
+  pub elements : ElementsDiffer (version-2 theirs) ⊎ (ours .elements ≡ countOf (elements (version-2 theirs)))
 
 abbrev pub SameDataspace : DataSpace → Dataspace → Type 0
 SameDataspace ours (version-1 x) = SameDataspace1 ours x
 SameDataspace ours (version-2 x) = SameDataspace2 ours x
+
+-- the two products are one
+product-same : (ns : List ℕ) → ours.product ns ≡ product ns
+unfolding ours.product product
+product-same [] = refl
+product-same (n ∷ ns) = rw (product-same ns)
+
+sizes-product : (d : Dimensions) (ns : List ℕ) → SameSizes d ns → ours.product (take (d .count) (d .sizes)) ≡ product ns
+sizes-product d ns s = product-same (take (d .count) (d .sizes)) ∙ ap product (s .size)
+
+-- by kind and sizes there are as many elements as the standard has
+elements-by : (d : Dimensions) (x : Dataspace2) → SameSizes d (x .dimension-size) → ElementsDiffer (version-2 x) ⊎ (elementsBy (options8.Some (x .type)) d ≡ elements (version-2 x))
+unfolding product
+elements-by d x s = go (eqb (x .type) 0) refl (eqb (x .type) 2) refl (x .dimension-size) refl
+  where
+    p : ours.product (take (d .count) (d .sizes)) ≡ product (x .dimension-size)
+    p = sizes-product d (x .dimension-size) s
+
+    go : (a : Bool) → eqb (x .type) 0 ≡ a → (b : Bool) → eqb (x .type) 2 ≡ b → (ns : List ℕ) → x .dimension-size ≡ ns
+        → ElementsDiffer (version-2 x) ⊎ (pick b 0 (ours.product (take (d .count) (d .sizes))) ≡ pick a 1 (pick b 0 (product (x .dimension-size))))
+    go true e true f ns g = let y = eqb-true (x .type) 0 e in let z = eqb-true (x .type) 2 f in absurd (omega arith)
+    go true e false f [] g = inr (p ∙ ap product g)
+    go true e false f (n ∷ ns) g = inl (scalar-with-sizes (eqb-true (x .type) 0 e) (λ h. let z = sym g ∙ h in let y : _≡_ {A = ℕ} 1 0 = ap (λ (l : List ℕ). elim l [ [] ↦ 0 | _∷_ m ms ↦ 1 ]) z in omega arith))
+    go false e true f ns g = inr refl
+    go false e false f ns g = inr p
+
+counted-by : (d : Dimensions) (x : Dataspace2) → SameSizes d (x .dimension-size)
+    → ElementsDiffer (version-2 x) ⊎ (countOf (elementsBy (options8.Some (x .type)) d) ≡ countOf (elements (version-2 x)))
+counted-by d x s = ⊎-elim inl (λ e. inr (ap countOf e)) (elements-by d x s)
+
+pub elements-same : (d : DataSpace) (b : Dataspace) → SameDataspace d b → ElementsDiffer b ⊎ (elementsOf d ≡ elements b)
+elements-same d (version-1 x) h = inr (rw (h .no-type) (sizes-product (d .«dimension_size») (x .dimension-size) (h .dimension-size)))
+elements-same d (version-2 x) h = rw (h .type) (elements-by (d .«dimension_size») x (h .dimension-size))
 
 -- one size
 dimension-tied : (w : ℕ) (maximum : Bool) → Tied _≡_ (dimension w maximum) (number w done)
@@ -109,7 +152,7 @@ dataspace1-tied w =
     tied-bind (dimensions-tied dimensionality w false few) (λ _ _ s.
     tied-bind (maximum-tied dimensionality w (bit flags 0) few) (λ _ _ m.
     none-stored (bit flags 1) dimensionality w _ (not-true (bit flags 1) c) (
-    tied-done (record { dimensionality = refl; flags = refl; no-type = refl; dimension-size = s; dimension-maximum-size = m; no-permutation-index = refl })))))))))))
+    tied-done (record { dimensionality = refl; flags = refl; no-type = refl; dimension-size = s; dimension-maximum-size = m; no-permutation-index = refl; elements = ap countOf (sizes-product _ _ s) })))))))))))
 
 pub dataspace2-tied : (w : ℕ) → Tied SameDataspace2 (ofVersion 2 (dataSpace2 w)) (dataspace2 w)
 unfolding dataSpace2 dataspace2
@@ -122,7 +165,7 @@ dataspace2-tied w =
     tied-number (λ type.
     tied-bind (dimensions-tied dimensionality w false few) (λ _ _ s.
     tied-bind (maximum-tied dimensionality w (bit flags 0) few) (λ _ _ m.
-    tied-done (record { dimensionality = refl; flags = refl; type = refl; dimension-size = s; dimension-maximum-size = m }))))))))
+    tied-done (record { dimensionality = refl; flags = refl; type = refl; dimension-size = s; dimension-maximum-size = m; elements = counted-by _ _ s }))))))))
 
 pub dataspace-tied : (s : State) → Tied SameDataspace (dataSpace s) (dataspaceMessage (s .«size_of_lengths»))
 unfolding dataSpace dataspaceMessage

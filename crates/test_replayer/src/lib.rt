@@ -167,7 +167,7 @@ fn expect_text(
     expected: &[u8],
     file: &[u8],
     table: &[u64],
-    words: &[u64; 63],
+    words: &[u64; 65],
 ) -> Matched
     requires { ⌜ getD (now words) 3 0 ≤ length (now table) / rowWords ⌝ }
     ensures { λ r. ⌜ Follows (now (expected .entry)) start r (textOf numbers (now (file .entry)) (now (table .entry)) (now (words .entry))) ⌝ }
@@ -184,7 +184,7 @@ fn replays(numbers: bool, file: &[u8], lead: Lead, expected: &[u8]) -> bool
     ensures { λ r. ⌜ Replays (textOf numbers (now (file .entry))) (now (expected .entry)) (now (file .entry)) lead r ⌝ }
 {
     let mut table = [0u64; 64 * ROW_WORDS];
-    let mut words = [0u64; 63];
+    let mut words = [0u64; 65];
     header_words(
         file,
         lead.position,

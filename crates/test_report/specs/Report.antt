@@ -58,16 +58,16 @@ wordsLine words first last = figuresOf words first (last - first) ++ field true 
 unfoldable pub recordsOf : List ℕ → List ℕ
 recordsOf words =
     (100 ∷ 97 ∷ 116 ∷ 97 ∷ 115 ∷ 112 ∷ 97 ∷ 99 ∷ 101 ∷ 44 ∷ [])
-    ++ (wordsLine words 4 17
+    ++ (wordsLine words 4 19
     ++ ((100 ∷ 97 ∷ 116 ∷ 97 ∷ 116 ∷ 121 ∷ 112 ∷ 101 ∷ 44 ∷ [])
-    ++ (wordsLine words 18 30
+    ++ (wordsLine words 20 32
     ++ ((108 ∷ 105 ∷ 110 ∷ 107 ∷ 95 ∷ 105 ∷ 110 ∷ 102 ∷ 111 ∷ 44 ∷ [])
-    ++ (wordsLine words 31 40
+    ++ (wordsLine words 33 42
     ++ ((103 ∷ 114 ∷ 111 ∷ 117 ∷ 112 ∷ 95 ∷ 105 ∷ 110 ∷ 102 ∷ 111 ∷ 44 ∷ [])
-    ++ (wordsLine words 41 49
+    ++ (wordsLine words 43 51
     ++ ((97 ∷ 116 ∷ 116 ∷ 114 ∷ 105 ∷ 98 ∷ 117 ∷ 116 ∷ 101 ∷ 95 ∷ 105 ∷ 110 ∷ 102 ∷ 111 ∷ 44 ∷ [])
-    ++ (wordsLine words 50 57
-    ++ ((108 ∷ 97 ∷ 121 ∷ 111 ∷ 117 ∷ 116 ∷ 44 ∷ []) ++ wordsLine words 58 60))))))))))
+    ++ (wordsLine words 52 59
+    ++ ((108 ∷ 97 ∷ 121 ∷ 111 ∷ 117 ∷ 116 ∷ 44 ∷ []) ++ wordsLine words 60 62))))))))))
 
 -- `refused`, whatever the number
 unfoldable pub refusedOf : List ℕ
@@ -80,7 +80,7 @@ answerOf file table words =
     ++ (wordsLine words 1 3
     ++ (rowLines file (firstRows table (getD words 3 0))
     ++ (recordsOf words
-    ++ dataOf file (record { position = getD words 61 0; length = getD words 62 0 }))))
+    ++ dataOf file (record { position = getD words 63 0; length = getD words 64 0 }))))
 
 -- the text of a header whose words these are, in the order of `wordsOf`: what is told of one that is read, or the refusal
 abbrev pub told : List ℕ → List ℕ → List ℕ

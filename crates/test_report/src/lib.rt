@@ -120,11 +120,11 @@ fn expect_data(expected: &[u8], from: Matched, file: &[u8], part: Part) -> Match
 fn expect_words(
     expected: &[u8],
     from: Matched,
-    words: &[u64; 63],
+    words: &[u64; 65],
     first: usize,
     last: usize,
 ) -> Matched
-    requires { ⌜ (first ≤ last) × (last < 63) ⌝ }
+    requires { ⌜ (first ≤ last) × (last < 65) ⌝ }
     ensures { λ r. ⌜ Follows (now (expected .entry)) from r (wordsLine (now (words .entry)) first last) ⌝ }
 {
     let mut met = from;
@@ -137,21 +137,21 @@ fn expect_words(
 }
 
 // A line for each record; a layout's data stand elsewhere.
-fn expect_records(expected: &[u8], from: Matched, words: &[u64; 63]) -> Matched
+fn expect_records(expected: &[u8], from: Matched, words: &[u64; 65]) -> Matched
     ensures { λ r. ⌜ Follows (now (expected .entry)) from r (recordsOf (now (words .entry))) ⌝ }
 {
     let met = expect_bytes(expected, from, b"dataspace,");
-    let met = expect_words(expected, met, words, 4, 17);
+    let met = expect_words(expected, met, words, 4, 19);
     let met = expect_bytes(expected, met, b"datatype,");
-    let met = expect_words(expected, met, words, 18, 30);
+    let met = expect_words(expected, met, words, 20, 32);
     let met = expect_bytes(expected, met, b"link_info,");
-    let met = expect_words(expected, met, words, 31, 40);
+    let met = expect_words(expected, met, words, 33, 42);
     let met = expect_bytes(expected, met, b"group_info,");
-    let met = expect_words(expected, met, words, 41, 49);
+    let met = expect_words(expected, met, words, 43, 51);
     let met = expect_bytes(expected, met, b"attribute_info,");
-    let met = expect_words(expected, met, words, 50, 57);
+    let met = expect_words(expected, met, words, 52, 59);
     let met = expect_bytes(expected, met, b"layout,");
-    expect_words(expected, met, words, 58, 60)
+    expect_words(expected, met, words, 60, 62)
 }
 
 fn expect_refused(expected: &[u8]) -> Matched
@@ -162,7 +162,7 @@ fn expect_refused(expected: &[u8]) -> Matched
 
 // How far the report of a header, given as its words and its table, stands at the start of what is
 // expected.
-pub fn expect_report(expected: &[u8], file: &[u8], table: &[u64], words: &[u64; 63]) -> Matched
+pub fn expect_report(expected: &[u8], file: &[u8], table: &[u64], words: &[u64; 65]) -> Matched
     requires { ⌜ getD (now words) 3 0 ≤ length (now table) / rowWords ⌝ }
     ensures { λ r. ⌜ Follows (now (expected .entry)) start r (reportOf (now (file .entry)) (now (table .entry)) (now (words .entry))) ⌝ }
 {
@@ -170,8 +170,8 @@ pub fn expect_report(expected: &[u8], file: &[u8], table: &[u64], words: &[u64; 
         return expect_refused(expected);
     }
     let part = Part {
-        position: words[61] as usize,
-        length: words[62] as usize,
+        position: words[63] as usize,
+        length: words[64] as usize,
     };
     let met = expect_bytes(expected, Matched::At(0), b"read,");
     let met = expect_words(expected, met, words, 1, 3);
@@ -202,7 +202,7 @@ fn expect_row_numbers(expected: &[u8], from: Matched, table: &[u64], rows: usize
 }
 
 // How far the numbers of a header's rows stand at the start of what is expected.
-pub fn expect_numbers(expected: &[u8], table: &[u64], words: &[u64; 63]) -> Matched
+pub fn expect_numbers(expected: &[u8], table: &[u64], words: &[u64; 65]) -> Matched
     requires { ⌜ getD (now words) 3 0 ≤ length (now table) / rowWords ⌝ }
     ensures { λ r. ⌜ Follows (now (expected .entry)) start r (numbersOf (now (table .entry)) (now (words .entry))) ⌝ }
 {

@@ -1,6 +1,8 @@
 -- By the superblock: what is refused is cleared, and else the header's words are those of its root.
 use mathlib.Core.Path.{_∙_}
+use Rattle.records.specs.Refusals.{refusalNumber}
 use Rattle.row.specs.Clearing.{cleared-all}
+use Rattle.data_object_root.specs.Laws.{refused-true}
 use borrow.Author.Needs.{needs}
 use Rattle.data_object_root.proofs.root_words.Statement.{statement}
 use Rattle.data_object_root.proofs.root_words.Tie as tie
@@ -33,13 +35,13 @@ same-length : tie.Need-same-length
 same-length c = search needs
 
 returns : tie.Need-returns
-returns c = rw (← c .before .before .before .before .before .before .before .before .before .super-block .ensures .0, c .before .before .before .before .before .before .before .refusal .given .1) (c .before .before .before .before .clear-behind .ensures ∙ cleared-all (c .before .before .before .before .before .before .before .before .before .before .before .before .args .table .now), c .put-refusal .ensures)
+returns c = (rw (← c .before .before .before .before .before .before .before .before .before .super-block .ensures .0, c .before .before .before .before .before .before .before .refusal .given .1) (c .before .before .before .before .clear-behind .ensures ∙ cleared-all (c .before .before .before .before .before .before .before .before .before .before .before .before .args .table .now), c .put-refusal .ensures), rw (c .put-refusal .ensures) (refused-true (refusalNumber (c .before .before .before .before .before .before .before .refusal .given .0 .0))))
 
 same-length-2 : tie.Need-same-length-2
 same-length-2 c = search needs
 
 returns-2 : tie.Need-returns-2
-returns-2 c = rw (← c .before .before .before .before .before .before .before .before .before .before .super-block .ensures .0, c .before .before .before .before .before .before .before .before .block .given .1) (c .before .before .header-words .ensures)
+returns-2 c = (rw (← c .before .before .before .before .before .before .before .before .before .before .super-block .ensures .0, c .before .before .before .before .before .before .before .before .block .given .1) (c .before .before .header-words .ensures .0), c .before .before .header-words .ensures .1)
 
 pub root-words-spec : {M : Type 1} → statement M
 root-words-spec =

@@ -4,33 +4,26 @@ use borrow.Author.Needs.{needs}
 use Rattle.data_object_winners.proofs.winning_data_space.Statement.{statement}
 use Rattle.data_object_winners.proofs.winning_data_space.Tie as tie
 
--- src/lib.rt:74:30
 last-body-requires : tie.Need-last-body-requires
 last-body-requires c κs = search needs
 
--- src/lib.rt:74:22
 enum-known-body : tie.Need-enum-known-body
 enum-known-body c = search needs
 
--- src/lib.rt:75:9
 enum-told : tie.Need-enum-told
 enum-told c = search needs
 
--- src/lib.rt:75:9
 default-requires : tie.Need-default-requires
 default-requires c κs = search needs
 
--- src/lib.rt:75:9
 returns : tie.Need-returns
-returns c = rw (c .default .ensures, ← c .before .before .before .last-body .ensures, c .before .enum-told .given .1)
+returns c = (rw (c .default .ensures .0, ← c .before .before .before .last-body .ensures, c .before .enum-told .given .1), c .default .ensures .1)
 
--- src/lib.rt:77:9
 message-data-space-requires : tie.Need-message-data-space-requires
 message-data-space-requires c κs = search needs
 
--- src/lib.rt:70:1
 returns-2 : tie.Need-returns-2
-returns-2 c = rw (← c .before .before .before .before .before .last-body .ensures, c .before .before .before .body .given .1) (space-or-default (c .before .message-data-space .result .answer) (c .before .message-data-space .result .«data_space») _ (c .before .message-data-space .ensures .0) (c .before .message-data-space .ensures .1))
+returns-2 c = (rw (← c .before .before .before .before .before .last-body .ensures, c .before .before .before .body .given .1) (space-or-default (c .before .message-data-space .result .answer) (c .before .message-data-space .result .«data_space») _ (c .before .message-data-space .ensures .0) (c .before .message-data-space .ensures .1 .0)), c .before .message-data-space .ensures .1 .1)
 
 pub winning-data-space-spec : {M : Type 1} → statement M
 winning-data-space-spec =

@@ -1,4 +1,4 @@
--- Each call sets the words of its record, and together they set all 63, so none of the old ones stays.
+-- Each call sets the words of its record, and together they set all 65, so none of the old ones stays.
 use native.Mathlib.Omega.{arith}
 use Rattle.data_object_words.specs.Laws.{put-whole}
 use borrow.Author.Needs.{needs}

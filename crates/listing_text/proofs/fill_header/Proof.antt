@@ -14,10 +14,10 @@ slice-aggregate-put-result : tie.Need-slice-aggregate-put-result
 slice-aggregate-put-result c = search needs
 
 put-result-requires : tie.Need-put-result-requires
-put-result-requires c κs = let h = lent-rows _ _ _ _ _ _ _ (c .before .before .before .before .header-words .ensures) in (search needs, search needs)
+put-result-requires c κs = let h = lent-rows _ _ _ _ _ _ _ (c .before .before .before .before .header-words .ensures .0) in (search needs, search needs)
 
 returns : tie.Need-returns
-returns c = rw (lent-listed _ _ _ _ _ _ _ (c .before .before .before .before .before .header-words .ensures)) at (c .put-result .ensures)
+returns c = rw (lent-listed _ _ _ _ _ _ _ (c .before .before .before .before .before .header-words .ensures .0)) at (c .put-result .ensures)
 
 pub fill-header-spec : {M : Type 1} → statement M
 fill-header-spec =

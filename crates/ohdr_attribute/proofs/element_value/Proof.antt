@@ -1,5 +1,5 @@
 -- The form is the datatype's, and so are its sizes; without one the bytes are passed.
-use Rattle.ohdr_dataspace.specs.Facts.{count-fits}
+use Rattle.element_count.specs.Facts.{count-fits}
 use Rattle.number_form.specs.Sizes.{form-sized}
 use Rattle.format.specs.Steps.{read-bind, read-done}
 use native.Mathlib.Omega.{arith}

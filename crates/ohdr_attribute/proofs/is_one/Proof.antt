@@ -1,5 +1,5 @@
 -- Too many elements are not one; else the count is exact.
-use Rattle.ohdr_dataspace.specs.Facts.{fits-count, many-count}
+use Rattle.element_count.specs.Facts.{fits-count, many-count}
 use borrow.Author.Tests.{ne-eqb}
 use native.Mathlib.Omega.{arith}
 use mathlib.Core.Path.{sym, _∙_}

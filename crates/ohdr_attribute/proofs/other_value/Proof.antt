@@ -2,7 +2,7 @@
 use mathlib.Core.Path.{sym, _∙_}
 use native.Mathlib.Omega.{arith}
 use Rattle.format.specs.Steps.{read-skip, read-done}
-use Rattle.ohdr_dataspace.specs.Facts.{fits-count, many-count}
+use Rattle.element_count.specs.Facts.{fits-count, many-count}
 use Rattle.ohdr_attribute.specs.Facts.{few-bytes, no-bytes, many-bytes}
 use Rattle.ohdr_attribute.specs.Attributes.{otherValue}
 use borrow.Author.Needs.{needs}

@@ -1,7 +1,7 @@
 -- Too many elements are more bytes than any file has; else the count is exact and the text is read.
 use mathlib.Core.Path.{sym, _∙_}
 use Rattle.format.specs.Steps.{read-here, read-text, read-done}
-use Rattle.ohdr_dataspace.specs.Facts.{fits-count, many-count}
+use Rattle.element_count.specs.Facts.{fits-count, many-count}
 use Rattle.ohdr_attribute.specs.Facts.{text-many}
 use Rattle.ohdr_attribute.specs.Attributes.{textValue}
 use borrow.Author.Needs.{needs}

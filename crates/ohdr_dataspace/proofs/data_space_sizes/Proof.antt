@@ -38,9 +38,12 @@ returns-2 : tie.Need-returns-2
 unfolding dataSpaceSizes
 returns-2 c = (rw (read-bind, ← c .before .before .before .before .before .before .before .before .dimensions .ensures, c .before .before .before .before .before .before .sizes-end .given .1, read-bind, ← bit-test (c .before .before .before .before .before .before .before .before .before .before .args .flags) 0, ← c .before .before .before .before .maximum-sizes .ensures, c .before .before .maximum-end2 .given .1) (c .no-data-space2 .ensures .0), c .no-data-space2 .ensures .1)
 
+elements-requires : tie.Need-elements-requires
+elements-requires c κs = search needs
+
 returns-3 : tie.Need-returns-3
 unfolding dataSpaceSizes
-returns-3 c = (rw (read-bind, ← c .before .before .before .before .before .before .before .before .before .dimensions .ensures, c .before .before .before .before .before .before .before .sizes-end .given .1, read-bind, ← bit-test (c .before .before .before .before .before .before .before .before .before .before .before .args .flags) 0, ← c .before .before .before .before .before .maximum-sizes .ensures, c .before .before .before .maximum-end .given .1, read-done), tt)
+returns-3 c = (rw (read-bind, ← c .before .before .before .before .before .before .before .before .before .before .dimensions .ensures, c .before .before .before .before .before .before .before .before .sizes-end .given .1, read-bind, ← bit-test (c .before .before .before .before .before .before .before .before .before .before .before .before .args .flags) 0, ← c .before .before .before .before .before .before .maximum-sizes .ensures, c .before .before .before .before .maximum-end .given .1, read-done, c .elements .ensures), (tt, c .elements .ensures))
 
 pub data-space-sizes-spec : {M : Type 1} → statement M
 data-space-sizes-spec =
@@ -56,4 +59,5 @@ data-space-sizes-spec =
     enum-known-maximum-end-2
     no-data-space-requires-2
     returns-2
+    elements-requires
     returns-3)

@@ -20,13 +20,13 @@ slice-aggregate-expect-text : tie.Need-slice-aggregate-expect-text
 slice-aggregate-expect-text c = search needs
 
 expect-text-requires : tie.Need-expect-text-requires
-expect-text-requires c κs = let h = few-rows _ (c .before .before .before .before .before .before .before .before .before .before .args .lead) _ _ (c .before .before .before .header-words .ensures) in search needs
+expect-text-requires c κs = let h = few-rows _ (c .before .before .before .before .before .before .before .before .before .before .args .lead) _ _ (c .before .before .before .header-words .ensures .0) in search needs
 
 ends-requires : tie.Need-ends-requires
 ends-requires c κs = search needs
 
 returns : tie.Need-returns
-returns c = answered _ (c .before .before .before .before .before .before .before .before .before .before .before .before .args .lead) _ _ (c .before .before .before .before .before .header-words .ensures) _ _ _ _ (c .before .expect-text .ensures) (c .ends .ensures)
+returns c = answered _ (c .before .before .before .before .before .before .before .before .before .before .before .before .args .lead) _ _ (c .before .before .before .before .before .header-words .ensures .0) _ _ _ _ (c .before .expect-text .ensures) (c .ends .ensures)
 
 pub replays-spec : {M : Type 1} → statement M
 replays-spec =
