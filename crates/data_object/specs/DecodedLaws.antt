@@ -24,8 +24,8 @@ use Rattle.ohdr_info.specs.Info.{linkInfo, groupInfo, attributeInfo}
 use Rattle.ohdr_storage.specs.Storage.{dataLayout}
 use Rattle.ohdr_datatype.specs.DataTypes.{dataType, typeLevels}
 use Rattle.ohdr_dataspace.specs.DataSpaces.{dataSpace}
-use Rattle.ohdr_walk.specs.declared.Progress.{Progress}
-use Rattle.ohdr_walk.specs.Code.{walkedOf}
+use Rattle.ohdr_closing.specs.declared.Progress.{Progress}
+use Rattle.ohdr_closing.specs.Answers.{walkedOf}
 use Rattle.data_object_header.specs.Headers.{HeaderReading}
 use Rattle.data_object_header.specs.Passing.{passes-lent}
 use Rattle.data_object_messages.specs.Messages.{decodeOn}

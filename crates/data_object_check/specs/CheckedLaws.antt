@@ -10,8 +10,8 @@ use Rattle.records.specs.declared.Refusal.{Refusal}
 use Rattle.grammar.specs.Grammar.{Item}
 use Rattle.grammar.specs.Walk.{reached, stopped, withoutTable}
 use Rattle.grammar.specs.WalkLaws.{same-reached}
-use Rattle.ohdr_walk.specs.declared.Progress.{Progress}
-use Rattle.ohdr_walk.specs.Code.{walkedOf}
+use Rattle.ohdr_closing.specs.declared.Progress.{Progress}
+use Rattle.ohdr_closing.specs.Answers.{walkedOf}
 use Rattle.data_object_header.specs.Headers.{Checkable}
 use Rattle.data_object_header.specs.Passing.{passes-without}
 use Rattle.data_object_messages.specs.Messages.{decodeOn}

@@ -2,7 +2,7 @@
 // table afterwards knows how many rows it needs.
 use data_object_messages::Messages;
 use data_object_messages::data_object_messages;
-use ohdr_walk::Limits;
+use ohdr_closing::Limits;
 use records::Refusal;
 ghost use Rattle.data_object_check.specs.Checked.{Checked};
 

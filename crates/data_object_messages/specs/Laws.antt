@@ -16,8 +16,8 @@ use Rattle.grammar.specs.Table.{messages, rowsOf}
 use Rattle.grammar.specs.Walk.{reached, stopped, Limits}
 use Rattle.grammar.specs.WalkLaws.{first}
 use Rattle.grammar.specs.Filled.{Walked, grown, tell, untold, walkOn}
-use Rattle.ohdr_walk.specs.declared.Progress.{Progress}
-use Rattle.ohdr_walk.specs.Code.{walkedOf}
+use Rattle.ohdr_closing.specs.declared.Progress.{Progress}
+use Rattle.ohdr_closing.specs.Answers.{walkedOf}
 use Rattle.ohdr_walk.specs.Sources.{source}
 use Rattle.data_object_header.specs.Answers.{fieldsOut}
 use Rattle.data_object_header.specs.declared.HeaderFields.{HeaderFields}

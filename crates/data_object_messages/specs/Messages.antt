@@ -7,7 +7,7 @@ use Rattle.parser.specs.declared.State.{State}
 use Rattle.parser.specs.States.{Widths, stateFor}
 use Rattle.grammar.specs.Walk.{Went, reached, stopped, Limits}
 use Rattle.grammar.specs.Filled.{Walked, tell}
-use Rattle.ohdr_walk.specs.Code.{walkedOf}
+use Rattle.ohdr_closing.specs.Answers.{walkedOf}
 use Rattle.data_object_header.specs.Headers.{header, decode}
 use Rattle.data_object_messages.specs.declared.Messages.{Messages}
 use Rattle.data_object_messages.specs.declared.Messages.the-variants as answers

@@ -3,10 +3,10 @@
 // are both this.
 use data_object_header::FieldsRead;
 use data_object_header::header_fields;
+use ohdr_closing::Limits;
+use ohdr_closing::Progress;
+use ohdr_closing::Walk;
 use ohdr_walk::Header;
-use ohdr_walk::Limits;
-use ohdr_walk::Progress;
-use ohdr_walk::Walk;
 use ohdr_walk::collect_all_messages;
 use parser::FILE_LIMIT;
 use parser::NewState;
@@ -16,7 +16,7 @@ ghost use mathlib.Core.Path.{_≡_};
 ghost use Prim.Native.Nat.{_≤_};
 ghost use lib.ListN.{length};
 ghost use Rattle.parser.specs.States.{fileLimit, Widths};
-ghost use Rattle.ohdr_walk.specs.Code.{Lends, limitsOf, walkOut};
+ghost use Rattle.ohdr_closing.specs.Answers.{Lends, limitsOf, walkOut};
 ghost use Rattle.data_object_messages.specs.Messages.{messagesOut, headerOn, decodeOn, StateRead};
 
 // Where the walk ended, and the state of the file; or what refused it and the entries begun by then.

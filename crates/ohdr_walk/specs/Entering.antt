@@ -28,13 +28,14 @@ use Rattle.ohdr_entry.specs.Entries.{prefixSize, entry}
 use Rattle.ohdr_entry.specs.declared.EntryRead.{EntryRead}
 use Rattle.ohdr_entry.specs.declared.EntryRead.the-variants as entries
 use Rattle.row.specs.declared.Row.{Row}
-use Rattle.ohdr_walk.specs.Code.{rowTaken, blockClosed, sourceOf, limitsOf, walkedOf, walkOut, entryOf, runOf}
+use Rattle.ohdr_closing.specs.Answers.{rowTaken, blockClosed, limitsOf, walkedOf, walkOut}
+use Rattle.ohdr_closing.specs.declared.Limits.{Limits}
+use Rattle.ohdr_closing.specs.declared.Progress.{Progress}
+use Rattle.ohdr_closing.specs.declared.Walk.{Walk}
+use Rattle.ohdr_closing.specs.declared.Walk.the-variants.{Done, Refused}
+use Rattle.ohdr_walk.specs.Code.{sourceOf, entryOf, runOf}
 use Rattle.helpers.specs.Facts.{met}
 use Rattle.ohdr_walk.specs.declared.Header.{Header}
-use Rattle.ohdr_walk.specs.declared.Limits.{Limits}
-use Rattle.ohdr_walk.specs.declared.Progress.{Progress}
-use Rattle.ohdr_walk.specs.declared.Walk.{Walk}
-use Rattle.ohdr_walk.specs.declared.Walk.the-variants.{Done, Refused}
 
 abbrev pub state : ℕ → ℕ → List ℕ → Walked
 state entries rows table = record { entries = entries; rows = rows; table = table }

@@ -12,13 +12,14 @@ use Rattle.helpers.specs.declared.Place.the-variants as places
 use Rattle.grammar.specs.Grammar.{headerEnd}
 use Rattle.grammar.specs.Walk.{reached, stopped}
 use Rattle.grammar.specs.Filled.{walk-on-stops, walk-on-unclosed, walk-on-closed}
-use Rattle.ohdr_walk.specs.Code.{sourceOf, limitsOf, walkedOf, walkOut, runOf, walkOf}
+use Rattle.ohdr_closing.specs.Answers.{limitsOf, walkedOf, walkOut}
+use Rattle.ohdr_closing.specs.declared.Limits.{Limits}
+use Rattle.ohdr_closing.specs.declared.Progress.{Progress}
+use Rattle.ohdr_closing.specs.declared.Walk.{Walk}
+use Rattle.ohdr_closing.specs.declared.Walk.the-variants.{Done, Refused}
+use Rattle.ohdr_walk.specs.Code.{sourceOf, runOf, walkOf}
 use Rattle.lookup3.specs.Lookup3.{sumMatches}
 use Rattle.ohdr_walk.specs.declared.Header.{Header}
-use Rattle.ohdr_walk.specs.declared.Limits.{Limits}
-use Rattle.ohdr_walk.specs.declared.Progress.{Progress}
-use Rattle.ohdr_walk.specs.declared.Walk.{Walk}
-use Rattle.ohdr_walk.specs.declared.Walk.the-variants.{Done, Refused}
 
 module _ (file : List ℕ) (h : Header) (l : Limits) (o e p : ℕ) (t t′ : List ℕ) {w : Walk} (j : walkOut w t′ ≡ runOf file h l 25 e p (record { entries = 0; rows = 0; table = t })) where
   pub unwalked : {x : Refusal} {n : ℕ} → w ≡ Refused x n → stopped (refusalNumber x) n ≡ walkOf file h l o e p t

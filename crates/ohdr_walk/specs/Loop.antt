@@ -11,12 +11,13 @@ use Rattle.grammar.specs.Walk.{Went, reached, stopped}
 use Rattle.grammar.specs.Filled.{Walked, Further, further as goes-further, run-ends, run-stops, run-goes}
 use Rattle.ohdr_entry.specs.Entries.{prefixSize}
 use Rattle.helpers.specs.Facts.{met}
-use Rattle.ohdr_walk.specs.Code.{sourceOf, limitsOf, walkedOf, walkOut, entryOf, runOf}
+use Rattle.ohdr_closing.specs.Answers.{limitsOf, walkedOf, walkOut}
+use Rattle.ohdr_closing.specs.declared.Limits.{Limits}
+use Rattle.ohdr_closing.specs.declared.Progress.{Progress}
+use Rattle.ohdr_closing.specs.declared.Walk.{Walk}
+use Rattle.ohdr_closing.specs.declared.Walk.the-variants.{Done, Refused}
+use Rattle.ohdr_walk.specs.Code.{sourceOf, entryOf, runOf}
 use Rattle.ohdr_walk.specs.declared.Header.{Header}
-use Rattle.ohdr_walk.specs.declared.Limits.{Limits}
-use Rattle.ohdr_walk.specs.declared.Progress.{Progress}
-use Rattle.ohdr_walk.specs.declared.Walk.{Walk}
-use Rattle.ohdr_walk.specs.declared.Walk.the-variants.{Done, Refused}
 
 -- o, the definition's run from where the loop began, is its run from here; t is the table here, and t₀ that at the beginning
 pub record Along (file : List ℕ) (h : Header) (l : Limits) (levels end : ℕ) (o : Went Walked) (t₀ : List ℕ) (p : Progress) (t : List ℕ) : Type 0 where

@@ -1,27 +1,24 @@
 // Entries and the blocks that continuations open (ohdr_message.rs, message_entry, message_continue
 // and collect_all_messages), with the rows of a lent table.
 use helpers::Place;
-use helpers::Taken;
 use helpers::signature;
-use helpers::take;
-use lookup3::checksum_matches;
+use ohdr_closing::Limits;
+use ohdr_closing::Progress;
+use ohdr_closing::Walk;
+use ohdr_closing::close_block;
+use ohdr_closing::header_end;
+use ohdr_closing::take_row;
 use ohdr_entry::EntryRead;
 use ohdr_entry::entry_alone;
 use parser::State;
 use records::Refusal;
-use row::Row;
-use row::put_row;
 ghost use mathlib.Core.Path.{_≡_};
-ghost use mathlib.Core.List.{List};
-ghost use Prim.Native.Nat.{ℕ, _+_, _-_, _≤_, _<_};
+ghost use Prim.Native.Nat.{_≤_};
 ghost use lib.ListN.{length};
-ghost use Rattle.format.specs.Format.{read};
-ghost use Rattle.helpers.specs.Answers.{placeOut};
 ghost use Rattle.parser.specs.States.{Widths};
-ghost use Rattle.grammar.specs.Grammar.{blockEnd, headerEnd};
+ghost use Rattle.ohdr_closing.specs.Answers.{Lends, walkedOf, walkOut};
 ghost use Rattle.ohdr_entry.specs.Entries.{prefixSize};
-ghost use Rattle.lookup3.specs.Lookup3.{sumMatches};
-ghost use Rattle.ohdr_walk.specs.Code.{Lends, rowTaken, blockClosed, walkedOf, walkOut, entryOf, runOf, walkOf};
+ghost use Rattle.ohdr_walk.specs.Code.{entryOf, runOf, walkOf};
 
 // What does not change while a header is walked: the state of the file, and the header's flags.
 pub struct Header {
@@ -29,109 +26,11 @@ pub struct Header {
     pub flags: u8,
 }
 
-// How many entries are allowed and what refuses the next, how many rows there are, and whether the
-// messages beyond them are counted alone, as where there is no table, or refused.
-pub struct Limits {
-    pub entries: usize,
-    pub beyond: Refusal,
-    pub rows: usize,
-    pub counts: bool,
-}
-
-// How far a walk has come: the next position, the rows taken, the entries begun.
-pub struct Progress {
-    pub at: usize,
-    pub rows: usize,
-    pub entries: usize,
-}
-
-// Where a walk ended, or what refused it and the entries begun by then.
-pub enum Walk {
-    Done(Progress),
-    Refused(Refusal, usize),
-}
-
 // The bytes of an entry before its body.
 pub fn message_prefix_size(flags: u8) -> usize
     ensures { λ r. ⌜ r ≡ prefixSize flags ⌝ }
 {
     if flags & 4 != 0 { 6 } else { 4 }
-}
-
-// A message's words go into the next row, where there is one, and the walk goes on at `next`. Where
-// there is none it is counted alone, or refused.
-fn take_row(table: &mut [u64], limits: Limits, from: Progress, row: Row, next: usize) -> Walk
-    requires { ⌜ Lends limits (now table) × (from .rows ≤ from .entries) × (from .entries < limits .entries) ⌝ }
-    ensures { λ r. ⌜ walkOut r (now (table .exit)) ≡ rowTaken limits from row next (now (table .entry)) ⌝ }
-{
-    let rows = from.rows;
-    let begun = from.entries + 1;
-    let taken = Progress {
-        at: next,
-        rows: rows + 1,
-        entries: begun,
-    };
-    if rows < limits.rows {
-        put_row(table, rows, row);
-        return Walk::Done(taken);
-    }
-    if limits.counts {
-        return Walk::Done(taken);
-    }
-    Walk::Refused(Refusal::Table, begun)
-}
-
-// The bytes up to an end, if it is not yet reached.
-fn gap(at: usize, end: usize) -> usize
-    ensures { λ r. ⌜ r ≡ end - at ⌝ }
-{
-    if at < end { end - at } else { 0 }
-}
-
-// What closes a block.
-fn block_end(file: &[u8], from: usize, whole: usize, at: usize) -> Place
-    requires { ⌜ from + 4 ≤ whole ⌝ }
-    ensures { λ r. ⌜ placeOut r ≡ read (now (file .entry)) (blockEnd (sumMatches (now (file .entry))) from whole at) at ⌝ }
-{
-    let Taken::At(next) = take(file, at, gap(at, whole)) else {
-        return Place::Refused(Refusal::Short);
-    };
-    if !checksum_matches(file, from, whole - 4) {
-        return Place::Refused(Refusal::Checksum);
-    }
-    Place::At(next)
-}
-
-// What closes a block whose entries were walked up to `last`; reading resumes after its entry.
-fn close_block(file: &[u8], from: usize, whole: usize, last: Progress, next: usize) -> Walk
-    requires { ⌜ from + 4 ≤ whole ⌝ }
-    ensures { λ r. ⌜ ((t : List ℕ) → walkOut r t ≡ blockClosed (now (file .entry)) from whole last next t) ⌝ }
-{
-    match block_end(file, from, whole, last.at) {
-        Place::Refused(r) => Walk::Refused(r, last.entries),
-        Place::At(_) => Walk::Done(Progress {
-            at: next,
-            rows: last.rows,
-            entries: last.entries,
-        }),
-    }
-}
-
-// What closes a header.
-fn header_end(file: &[u8], from: usize, end: usize, at: usize) -> Place
-    requires { ⌜ from ≤ end ⌝ }
-    ensures { λ r. ⌜ placeOut r ≡ read (now (file .entry)) (headerEnd (sumMatches (now (file .entry))) from end at) at ⌝ }
-{
-    let Taken::At(reached) = take(file, at, gap(at, end)) else {
-        return Place::Refused(Refusal::Short);
-    };
-    let Taken::At(next) = take(file, reached, 4) else {
-        return Place::Refused(Refusal::Short);
-    };
-    if !checksum_matches(file, from, end) {
-        return Place::Refused(Refusal::Checksum);
-    }
-    Place::At(next)
 }
 
 // The same header, and the same limits, made anew: a struct that is handed on to another call is

@@ -2,7 +2,7 @@
 use mathlib.Core.Path.{sym, _∙_}
 use Rattle.helpers.specs.Facts.{met}
 use Rattle.parser.specs.StateLaws.{made, made-widths}
-use Rattle.ohdr_walk.specs.Code.{limitsOf, walkOut}
+use Rattle.ohdr_closing.specs.Answers.{limitsOf, walkOut}
 use Rattle.data_object_messages.specs.Laws.{not-made, not-small, goes-in}
 use borrow.Author.Needs.{needs}
 use Rattle.data_object_messages.proofs.data_object_messages.Statement.{statement}

@@ -1,7 +1,7 @@
 -- The definition reads the header's fields and then walks its messages, and so do the two calls.
 use mathlib.Core.Path.{_∙_}
 use native.Mathlib.Omega.{arith}
-use Rattle.ohdr_walk.specs.Code.{limitsOf}
+use Rattle.ohdr_closing.specs.Answers.{limitsOf}
 use Rattle.data_object_messages.specs.Laws.{fields-refused, fields-read, fields-bound}
 use borrow.Author.Needs.{needs}
 use Rattle.data_object_messages.proofs.header_messages.Statement.{statement}

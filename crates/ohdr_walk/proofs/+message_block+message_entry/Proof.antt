@@ -3,8 +3,9 @@ use borrow.Author.Needs.{needs}
 use Prim.Native.Nat.{_+_, _-_, _*_}
 use Rattle.ohdr_walk.specs.Loop.{Along, ends, stops, goes, falls as shrinks}
 use Rattle.ohdr_walk.specs.Entering.{prefix-small, many, unread, row-taken, ranged, deep, unsigned, starts-inside, unrun, block-closed}
-use Rattle.ohdr_walk.specs.Code.{walkedOf, runOf}
-use Rattle.ohdr_walk.specs.Taking.{lends-on}
+use Rattle.ohdr_walk.specs.Code.{runOf}
+use Rattle.ohdr_closing.specs.Answers.{walkedOf}
+use Rattle.ohdr_closing.specs.Taking.{lends-on}
 use native.Mathlib.Omega.{arith}
 use mathlib.Core.Path.{refl, sym}
 use Prim.Native.Nat.{ℕ, _<_}
@@ -20,9 +21,9 @@ use Rattle.helpers.proofs.signature.Reads as signature-reads
 use Rattle.ohdr_entry.proofs.entry_alone.Reads as entry-alone-reads
 use Rattle.ohdr_walk.proofs.again.Reads as again-reads
 use Rattle.ohdr_walk.proofs.again_limits.Reads as again-limits-reads
-use Rattle.ohdr_walk.proofs.close_block.Reads as close-block-reads
+use Rattle.ohdr_closing.proofs.close_block.Reads as close-block-reads
 use Rattle.ohdr_walk.proofs.message_prefix_size.Reads as message-prefix-size-reads
-use Rattle.ohdr_walk.proofs.take_row.Reads as take-row-reads
+use Rattle.ohdr_closing.proofs.take_row.Reads as take-row-reads
 use Rattle.ohdr_walk.proofs.+message_block+message_entry.{statement}
 use Rattle.ohdr_walk.proofs.+message_block+message_entry.Tie.{close}
 

@@ -3,10 +3,10 @@ use native.Mathlib.Omega.{arith}
 use borrow.Author.Tests.{not-true, not-false}
 use Rattle.format.specs.Steps.{read-skip, read-refuse, read-done}
 use Rattle.grammar.specs.Grammar.{blockEnd}
-use Rattle.ohdr_walk.specs.Closing.{taken}
+use Rattle.ohdr_closing.specs.Closing.{taken}
 use borrow.Author.Needs.{needs}
-use Rattle.ohdr_walk.proofs.block_end.Statement.{statement}
-use Rattle.ohdr_walk.proofs.block_end.Tie as tie
+use Rattle.ohdr_closing.proofs.block_end.Statement.{statement}
+use Rattle.ohdr_closing.proofs.block_end.Tie as tie
 
 -- src/lib.rt:146:42
 gap-requires : tie.Need-gap-requires

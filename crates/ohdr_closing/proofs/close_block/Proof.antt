@@ -4,8 +4,8 @@ use Rattle.helpers.specs.Answers.{placeOut}
 use Rattle.helpers.specs.Facts.{met}
 use mathlib.Core.Path.{sym}
 use borrow.Author.Needs.{needs}
-use Rattle.ohdr_walk.proofs.close_block.Statement.{statement}
-use Rattle.ohdr_walk.proofs.close_block.Tie as tie
+use Rattle.ohdr_closing.proofs.close_block.Statement.{statement}
+use Rattle.ohdr_closing.proofs.close_block.Tie as tie
 
 -- src/lib.rt:112:11
 block-end-requires : tie.Need-block-end-requires

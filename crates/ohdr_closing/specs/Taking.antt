@@ -14,9 +14,9 @@ use Rattle.row.specs.RowLaws.{length-putRow}
 use Rattle.grammar.specs.Walk.{reached, stopped}
 use Rattle.grammar.specs.WalkLaws.{choose-yes, choose-no}
 use Rattle.grammar.specs.Filled.{Walked, state≡}
-use Rattle.ohdr_walk.specs.Code.{Lends, rowTaken}
-use Rattle.ohdr_walk.specs.declared.Limits.{Limits}
-use Rattle.ohdr_walk.specs.declared.Progress.{Progress}
+use Rattle.ohdr_closing.specs.Answers.{Lends, rowTaken}
+use Rattle.ohdr_closing.specs.declared.Limits.{Limits}
+use Rattle.ohdr_closing.specs.declared.Progress.{Progress}
 
 -- a table of the same length lends the same
 pub lends-on : {l : Limits} {t u : List ℕ} → length u ≡ length t → Lends l t → Lends l u

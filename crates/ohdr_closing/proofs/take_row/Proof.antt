@@ -1,8 +1,8 @@
 -- A message takes the next row of the table; beyond the last it is counted alone, or refused, and so by the definition.
 use borrow.Author.Needs.{needs}
-use Rattle.ohdr_walk.specs.Taking.{stored, counted, no-row}
-use Rattle.ohdr_walk.proofs.take_row.Statement.{statement}
-use Rattle.ohdr_walk.proofs.take_row.Tie as tie
+use Rattle.ohdr_closing.specs.Taking.{stored, counted, no-row}
+use Rattle.ohdr_closing.proofs.take_row.Statement.{statement}
+use Rattle.ohdr_closing.proofs.take_row.Tie as tie
 
 -- src/lib.rt:67:17
 add-begun : tie.Need-add-begun
