@@ -9,9 +9,10 @@
  * file's own superblock; the third is for files whose superblock is not of version 2 or 3. The
  * numbers are decimal. A line for the superblock, where it is read, one for the call, one for each
  * row, one for each record; a hyphen stands where a field is absent, `undefined` where an address
- * is, and names and data are written as the bytes they are. A superblock or a header that is
- * refused prints `refused,` and the refusal's number. The exit status is 0 for either, and 2 where
- * nothing could be decoded or written.
+ * is, `too many` where the elements of the dataspace are 2^64 or more, and names and data are
+ * written as the bytes they are. A superblock or a header that is refused prints `refused,` and the
+ * refusal's number. The exit status is 0 for either, and 2 where nothing could be decoded or
+ * written.
  *
  * The line of a row ends with its part; where an attribute has a number, three fields follow:
  *
@@ -132,14 +133,19 @@ static void put_number(uint64_t number)
     printf(",%llu", (unsigned long long)number);
 }
 
-/* A number where it is present, a hyphen where it is not. */
-static void put_if(int present, uint64_t number)
+/* A number where there is one, a word where there is none. */
+static void put_either(int is_number, uint64_t number, const char *word)
 {
-    if (present) {
+    if (is_number) {
         put_number(number);
     } else {
-        fputs(",-", stdout);
+        printf(",%s", word);
     }
+}
+
+static void put_if(int present, uint64_t number)
+{
+    put_either(present, number, "-");
 }
 
 static void put_optional(dowringaf_optional field)
@@ -149,11 +155,12 @@ static void put_optional(dowringaf_optional field)
 
 static void put_address(dowringaf_address address)
 {
-    if (address.undefined != 0) {
-        fputs(",undefined", stdout);
-    } else {
-        put_number(address.number);
-    }
+    put_either(address.undefined == 0, address.number, "undefined");
+}
+
+static void put_elements(dowringaf_elements elements)
+{
+    put_either(elements.too_many == 0, elements.number, "too many");
 }
 
 static void put_optional_address(dowringaf_optional_address field)
@@ -241,6 +248,7 @@ static void put_dataspace(const dowringaf_dataspace *space)
     put_optional(space->kind);
     put_dimensions(&space->size);
     put_dimensions(&space->maximum_size);
+    put_elements(space->elements);
     putchar('\n');
 }
 

@@ -83,7 +83,8 @@ enum dowringaf_refusal {
 
 /*
  * The words of a row of the table. Row i begins at word i * DOWRINGAF_ROW_WORDS. Positions count
- * from the file's first byte. A name or a part that the row lacks is 0 in all its words.
+ * from the file's first byte. A name or a part that the row lacks is 0 in all its words. A text may
+ * be empty, which is a part of length 0: so is one of a size above 0 in a null dataspace.
  */
 enum dowringaf_row {
     DOWRINGAF_ROW_TYPE = 0,          /* the message's type */
@@ -111,8 +112,8 @@ enum dowringaf_row {
  *     bits 8 to 15 name the top bit, which is 31 or 63.
  *
  * Class bit 0 says whether the highest byte stands first; all other class bits may be any. A space
- * of any kind has one element where it has no sizes or all of them are 1. A row with a number has
- * no part. Every other row has DOWRINGAF_NUMBER_NONE, and bits of 0.
+ * has one element where it has no sizes or all of them are 1, unless it is a null one, which has
+ * none. A row with a number has no part. Every other row has DOWRINGAF_NUMBER_NONE, and bits of 0.
  */
 enum dowringaf_number {
     DOWRINGAF_NUMBER_NONE = 0,
@@ -181,12 +182,27 @@ typedef struct dowringaf_dimensions {
     uint64_t sizes[4];
 } dowringaf_dimensions;
 
+/*
+ * How many elements there are, exactly. From 2^64 on they are too many for a word: too_many is 1,
+ * and the number 0. Otherwise too_many is 0.
+ */
+typedef struct dowringaf_elements {
+    uint64_t too_many;
+    uint64_t number;
+} dowringaf_elements;
+
+/*
+ * The elements are the product of the sizes, and one where there are no sizes; the maximum sizes
+ * play no part. A null dataspace is one whose kind is present and 2; version 1 of the message has
+ * no kind. It has no elements, also where it has sizes. No other kind plays a part.
+ */
 typedef struct dowringaf_dataspace {
     uint64_t dimensionality;
     uint64_t flags;
     dowringaf_optional kind;
     dowringaf_dimensions size;
     dowringaf_dimensions maximum_size;
+    dowringaf_elements elements;
 } dowringaf_dataspace;
 
 /* The kind of a format. */
@@ -258,9 +274,10 @@ typedef struct dowringaf_layout {
 } dowringaf_layout;
 
 /*
- * An object header. Where it is refused, every word but the first is 0. Of each record the header's
- * last message wins; where there is none, the record's words are 0, and so no address of it is
- * undefined.
+ * An object header. Of each record the header's last message wins. Where there is none, the words
+ * of the record are 0, and so no address of it is undefined; but the number of elements is 1, as in
+ * every dataspace without sizes that is not a null one. Where the header is refused, all records
+ * are so, and of the other words every one but the first is 0.
  */
 typedef struct dowringaf_object {
     uint64_t refused; /* 0, or an enum dowringaf_refusal */
@@ -375,7 +392,8 @@ dowringaf_superblock dowringaf_super_block(const uint8_t *file, size_t file_byte
 /*
  * Decodes the root group's object header: exactly as dowringaf_data_object does with the position,
  * the widths and the end-of-file address that dowringaf_super_block gives. Where the superblock is
- * refused, the object has its number, every other word is 0, and so is the whole table.
+ * refused, the object has its number, all else of it is as where a header is refused, and the whole
+ * table is zero.
  */
 void dowringaf_root_object(const uint8_t *file, size_t file_bytes, uint64_t *table,
                            size_t table_words, dowringaf_object *object);

@@ -6,6 +6,7 @@
  * checker sees a read or a write beyond them. Headers, their blocks and superblocks have their true
  * sums, unless it is said that they are false.
  */
+#include <stddef.h>
 #include <stdio.h>
 #include <stdlib.h>
 #include <string.h>
@@ -20,7 +21,8 @@ HAS_WORDS(dowringaf_optional, 2);
 HAS_WORDS(dowringaf_address, 2);
 HAS_WORDS(dowringaf_optional_address, 3);
 HAS_WORDS(dowringaf_dimensions, 5);
-HAS_WORDS(dowringaf_dataspace, 14);
+HAS_WORDS(dowringaf_elements, 2);
+HAS_WORDS(dowringaf_dataspace, 16);
 HAS_WORDS(dowringaf_format, 8);
 HAS_WORDS(dowringaf_datatype, 13);
 HAS_WORDS(dowringaf_link_info, 10);
@@ -28,10 +30,34 @@ HAS_WORDS(dowringaf_group_info, 9);
 HAS_WORDS(dowringaf_attribute_info, 8);
 HAS_WORDS(dowringaf_part, 2);
 HAS_WORDS(dowringaf_layout, 5);
-HAS_WORDS(dowringaf_object, 63);
+HAS_WORDS(dowringaf_object, 65);
 HAS_WORDS(dowringaf_checked, 4);
 HAS_WORDS(dowringaf_found, 3);
 HAS_WORDS(dowringaf_superblock, 8);
+
+/* The word that a member of an object begins with. */
+#define BEGINS_AT(name, member, n) \
+    typedef char name##_begins_there[offsetof(dowringaf_object, member) == (n) * 8 ? 1 : -1]
+
+/* That of the elements, which are 1 where no dataspace is read. */
+enum { ELEMENTS = 19 };
+
+BEGINS_AT(refused, refused, 0);
+BEGINS_AT(next, next, 1);
+BEGINS_AT(entries, entries, 2);
+BEGINS_AT(rows, rows, 3);
+BEGINS_AT(dataspace, dataspace, 4);
+BEGINS_AT(kind, dataspace.kind, 6);
+BEGINS_AT(size, dataspace.size, 8);
+BEGINS_AT(maximum_size, dataspace.maximum_size, 13);
+BEGINS_AT(too_many, dataspace.elements.too_many, 18);
+BEGINS_AT(elements, dataspace.elements.number, ELEMENTS);
+BEGINS_AT(datatype, datatype, 20);
+BEGINS_AT(link_info, link_info, 33);
+BEGINS_AT(group_info, group_info, 43);
+BEGINS_AT(attribute_info, attribute_info, 52);
+BEGINS_AT(layout, layout, 60);
+BEGINS_AT(data, layout.data, 63);
 
 static unsigned long compared = 0;
 static unsigned long failed = 0;
@@ -275,21 +301,41 @@ static void write_attribute(struct writer *w, struct places *p)
     put_text(w, "metre");
 }
 
+/* A dataspace, of which flag 0 brings the maxima. In version 1 the kind is the reserved bytes. */
+struct space {
+    uint64_t version;
+    uint64_t count;
+    uint64_t flags;
+    uint64_t kind;
+    uint64_t sizes[4];
+    uint64_t maxima[4];
+};
+
+static void put_numbers(struct writer *w, const uint64_t *numbers, uint64_t count, int width)
+{
+    uint64_t i;
+
+    for (i = 0; i < count; i++) {
+        put(w, numbers[i], width);
+    }
+}
+
+static void put_space(struct writer *w, const struct space *s)
+{
+    put(w, s->version, 1);
+    put(w, s->count, 1);
+    put(w, s->flags, 1);
+    put(w, s->kind, s->version == 1 ? 5 : 1);
+    put_numbers(w, s->sizes, s->count, LENGTH);
+    put_numbers(w, s->maxima, s->flags & 1 ? s->count : 0, LENGTH);
+}
+
 static void write_dataspace(struct writer *w, struct places *p)
 {
-    int i;
+    static const struct space space = {2, 4, 33, 77, {101, 102, 103, 104}, {201, 202, 203, 204}};
 
     p->body[0] = entry(w, 1, 36, 1);
-    put(w, 2, 1);
-    put(w, 4, 1);
-    put(w, 33, 1);
-    put(w, 77, 1);
-    for (i = 0; i < 4; i++) {
-        put(w, (uint64_t)(101 + i), LENGTH);
-    }
-    for (i = 0; i < 4; i++) {
-        put(w, (uint64_t)(201 + i), LENGTH);
-    }
+    put_space(w, &space);
 }
 
 /* The superblock in front of the full header. */
@@ -302,11 +348,8 @@ static void write_front(struct writer *w, uint64_t extension, uint64_t end)
     w->count = count;
 }
 
-/*
- * A file whose root has a header in which every field has a value of its own, as far as the format
- * leaves it free.
- */
-static void write_full(struct writer *w, struct places *p)
+/* The header of a root. Its entries follow, and what closes it. */
+static void begin_root(struct writer *w)
 {
     w->count = SUPERBLOCK;
     put_text(w, "xyz");
@@ -314,6 +357,24 @@ static void write_full(struct writer *w, struct places *p)
     put(w, 2, 1);
     put(w, 1, 1);
     put(w, 0, 2);
+}
+
+static void end_root(struct writer *w)
+{
+    size_t bytes = w->count - HEADER_FROM - 8;
+
+    w->bytes[HEADER_FROM + 6] = (uint8_t)(bytes % 256);
+    w->bytes[HEADER_FROM + 7] = (uint8_t)(bytes / 256);
+    put_sum(w, HEADER_FROM);
+}
+
+/*
+ * A file whose root has a header in which every field has a value of its own, as far as the format
+ * leaves it free.
+ */
+static void write_full(struct writer *w, struct places *p)
+{
+    begin_root(w);
     write_dataspace(w, p);
     write_datatype(w, p);
     write_infos(w, p);
@@ -325,8 +386,7 @@ static void write_full(struct writer *w, struct places *p)
     put(w, 1, 1);
     put(w, p->data, OFFSET);
     put(w, 9, LENGTH);
-    w->bytes[HEADER_FROM + 6] = (uint8_t)(w->count - HEADER_FROM - 8);
-    put_sum(w, HEADER_FROM);
+    end_root(w);
     put_text(w, "the bytes");
     write_front(w, 0xA1A2A3A4A5A6A7A8u, w->count);
 }
@@ -358,6 +418,8 @@ static void compare_spaces(const dowringaf_dataspace *s)
     IS(s->maximum_size.sizes[1], 202);
     IS(s->maximum_size.sizes[2], 203);
     IS(s->maximum_size.sizes[3], 204);
+    IS(s->elements.too_many, 0);
+    IS(s->elements.number, 110355024);
 }
 
 static void compare_types(const dowringaf_datatype *t)
@@ -463,14 +525,15 @@ static void look_up(const uint8_t *file, size_t bytes, const uint64_t *table, si
     free(wanted);
 }
 
-static void compare_zeros(const dowringaf_object *o, const uint64_t *table, size_t words)
+/* What stands beside the number of a refusal: one element, and zeros. */
+static void compare_refused(const dowringaf_object *o, const uint64_t *table, size_t words)
 {
     uint64_t all[sizeof *o / sizeof(uint64_t)];
     size_t i;
 
     memcpy(all, o, sizeof all);
     for (i = 1; i < sizeof all / sizeof all[0]; i++) {
-        IS(all[i], 0);
+        IS(all[i], i == ELEMENTS ? 1 : 0);
     }
     for (i = 0; i < words; i++) {
         IS(table[i], 0);
@@ -569,7 +632,7 @@ static void filling_is(const struct header *h, size_t words, dowringaf_checked e
         IS(table[i], 0);
     }
     if (expected.refused != 0) {
-        compare_zeros(o, NULL, 0);
+        compare_refused(o, NULL, 0);
     }
     free(table);
     free(o);
@@ -685,7 +748,7 @@ static void refuse(const uint8_t *bytes, size_t n, uint64_t position, uint64_t o
     refuse_below(bytes, n, position, offset_width, 1024, words, number);
 }
 
-/* Refusals: every cut of the full header is short, and leaves nothing but zeros. */
+/* Refusals: every cut of the full header is short, and leaves nothing but one element. */
 static void test_refused(void)
 {
     struct writer w;
@@ -838,6 +901,8 @@ static void test_fixed(void)
     IS(o->datatype.format.mantissa_size, 0);
     IS(o->datatype.format.exponent_bias, 0);
     IS(o->dataspace.kind.present, 0);
+    IS(o->dataspace.elements.too_many, 0);
+    IS(o->dataspace.elements.number, 1);
     IS(o->group_info.maximum_compact_value.present, 0);
     IS(o->layout.address.present, 0);
     IS(o->layout.data.position, 0);
@@ -908,25 +973,25 @@ static void object_is(const uint8_t *bytes, size_t n, uint64_t position, int wid
     free(o);
 }
 
-/* What is read of a header with some messages, before their records. */
-static dowringaf_object read_messages(const struct writer *w, uint64_t messages)
+/* What is handed over of a header without records. */
+static dowringaf_object no_records(void)
 {
     dowringaf_object o;
 
     memset(&o, 0, sizeof o);
+    o.dataspace.elements.number = 1;
+    return o;
+}
+
+/* What is read of a header with some messages, before their records. */
+static dowringaf_object read_messages(const struct writer *w, uint64_t messages)
+{
+    dowringaf_object o = no_records();
+
     o.next = w->count;
     o.entries = messages;
     o.rows = messages;
     return o;
-}
-
-static void put_addresses(struct writer *w, const uint64_t *addresses, int count, int width)
-{
-    int i;
-
-    for (i = 0; i < count; i++) {
-        put(w, addresses[i], width);
-    }
 }
 
 static void put_contiguous(struct writer *w, uint64_t address, uint64_t size, int width)
@@ -948,12 +1013,12 @@ static void write_addresses(struct writer *w, const uint64_t a[ADDRESSES], int w
     put(w, 0, 1);
     put(w, 3, 1);
     put(w, 11, 8);
-    put_addresses(w, a, 3, width);
+    put_numbers(w, a, 3, width);
     entry(w, 21, 4 + 3 * width, 0);
     put(w, 0, 1);
     put(w, 3, 1);
     put(w, 13, 2);
-    put_addresses(w, a + 3, 3, width);
+    put_numbers(w, a + 3, 3, width);
     put_contiguous(w, a[6], 1, width);
     end_header(w);
 }
@@ -1040,15 +1105,15 @@ static void test_absent_addresses(void)
         begin_header(&w);
         entry(&w, 2, 2 + 2 * width, 0);
         put(&w, 0, 2);
-        put_addresses(&w, undefined, 2, width);
+        put_numbers(&w, undefined, 2, width);
         entry(&w, 21, 2 + 2 * width, 0);
         put(&w, 0, 2);
-        put_addresses(&w, undefined, 2, width);
+        put_numbers(&w, undefined, 2, width);
         put_contiguous(&w, most(width), 1, width);
         entry(&w, 8, 12, 0);
         put(&w, 3, 2);
         put(&w, 8, 2);
-        put_addresses(&w, undefined, 1, 8);
+        put_numbers(&w, undefined, 1, 8);
         end_header(&w);
         o = read_messages(&w, 4);
         o.link_info.fractal_heap_address.undefined = 1;
@@ -1293,7 +1358,7 @@ static void superblock_is(const struct writer *w, const dowringaf_superblock *ex
     free(file);
 }
 
-/* Refused with a number as a root and as a listing; all else is zero. */
+/* Refused with a number as a root and as a listing, and nothing else is handed over. */
 static void refuse_root(const uint8_t *bytes, size_t n, uint64_t number)
 {
     uint8_t *file = copy(bytes, n);
@@ -1304,7 +1369,7 @@ static void refuse_root(const uint8_t *bytes, size_t n, uint64_t number)
     compare_checked(dowringaf_check_root_object(file, n), refused_with(number));
     dowringaf_root_object(file, n, table, LENT, o);
     IS(o->refused, number);
-    compare_zeros(o, table, LENT);
+    compare_refused(o, table, LENT);
     sprintf(listing, "refused,%llu\n", (unsigned long long)number);
     listing_is(file, n, listing);
     free(file);
@@ -1312,7 +1377,7 @@ static void refuse_root(const uint8_t *bytes, size_t n, uint64_t number)
     free(o);
 }
 
-/* Refused with a number as a superblock, as a root and as a listing; all else is zero. */
+/* The same as a superblock, the other words of which are zero. */
 static void refuse_superblock(const uint8_t *bytes, size_t n, uint64_t number)
 {
     static const dowringaf_superblock zeros = {0, 0, 0, 0, {0, 0}, 0, 0};
@@ -1533,7 +1598,7 @@ static void test_root(void)
     compare_checked(dowringaf_check_root_object(NULL, 0), refused_with(DOWRINGAF_SHORT));
     dowringaf_root_object(NULL, 0, NULL, 0, o);
     IS(o->refused, DOWRINGAF_SHORT);
-    compare_zeros(o, NULL, 0);
+    compare_refused(o, NULL, 0);
     free(o);
 }
 
@@ -1572,24 +1637,24 @@ static void far_root_is(uint64_t root, int width, uint64_t refused)
 static void test_far_roots(void)
 {
     uint8_t *file = far_root(FAR, 2);
-    dowringaf_object expected;
+    dowringaf_object expected = no_records();
 
     far_root_is(FAR - 1, 2, 0);
     far_root_is(FAR, 2, DOWRINGAF_SHORT);
     far_root_is(FAR, 3, 0);
-    memset(&expected, 0, sizeof expected);
     expected.next = FAR + 11;
     object_is(file, FAR_BYTES, FAR, 2, FAR, &expected);
     free(file);
 }
 
-/* The classes of numbers, and the bits of a class that decide on them. */
-enum { FIXED = 0, FLOAT = 1, HIGHEST_FIRST = 1, WITH_SIGN = 8, NORMALISED = 0x20 };
+/* The classes of types, those of numbers first, and the bits of a class that decide on numbers. */
+enum { FIXED = 0, FLOAT = 1, TEXT = 3, COMPOUND = 6, REFERENCE = 7 };
+enum { HIGHEST_FIRST = 1, WITH_SIGN = 8, NORMALISED = 0x20 };
 
 /*
- * An attribute that is a number, or would be but for one field. In version 1 its type and its space
- * have version 1 too, in version 3 they have 3 and 2. Of the sizes all but the last are 1. With a
- * list size the type is a variable-length one of numbers.
+ * An attribute that is a number, or would be but for one field. In version 1 its type has version 1
+ * too, and unless another one is given its space; in version 3 they have 3 and 2. Of the sizes all
+ * but the last are 1. With a list size the type is a variable-length one of the class.
  */
 struct numeric {
     uint64_t version;
@@ -1649,8 +1714,10 @@ static void put_type(struct writer *w, const struct numeric *n)
     put(w, n->version << 4 | n->class, 1);
     put(w, n->class_bits, 3);
     put(w, n->size, 4);
-    put(w, n->bit_offset, 2);
-    put(w, n->precision, 2);
+    if (n->class == FIXED || n->class == FLOAT) {
+        put(w, n->bit_offset, 2);
+        put(w, n->precision, 2);
+    }
     if (n->class == FLOAT) {
         put(w, is_single ? 23 : 52, 1);
         put(w, is_single ? 8 : 11, 1);
@@ -1660,25 +1727,19 @@ static void put_type(struct writer *w, const struct numeric *n)
     }
 }
 
-static void put_sizes(struct writer *w, int count, uint64_t last)
+static struct space space_of(const struct numeric *n)
 {
-    for (; count != 0; count--) {
-        put(w, count == 1 ? last : 1, LENGTH);
-    }
-}
+    struct space s = {2, 0, 0, 0, {1, 1, 1, 1}, {1, 1, 1, 1}};
 
-static void put_space(struct writer *w, const struct numeric *n)
-{
-    put(w, n->version == 1 ? 1 : 2, 1);
-    put(w, (uint64_t)n->sizes, 1);
-    put(w, n->maximum != 0 ? 1 : 0, 1);
-    if (n->version == 1) {
-        put(w, 0, 5);
-    } else {
-        put(w, n->sizes != 0 ? 1 : 0, 1);
+    s.version = n->version == 1 ? 1 : 2;
+    s.count = (uint64_t)n->sizes;
+    s.flags = n->maximum != 0 ? 1 : 0;
+    s.kind = n->version != 1 && n->sizes != 0 ? 1 : 0;
+    if (n->sizes != 0) {
+        s.sizes[n->sizes - 1] = n->last;
+        s.maxima[n->sizes - 1] = n->maximum;
     }
-    put_sizes(w, n->sizes, n->last);
-    put_sizes(w, n->maximum != 0 ? n->sizes : 0, n->maximum);
+    return s;
 }
 
 /* The bytes of a number, the lowest first or, by its type, the highest. */
@@ -1693,25 +1754,36 @@ static void put_element(struct writer *w, const struct numeric *n)
     }
 }
 
-/* An attribute up to its value. The sizes of name, type and space are below 256. */
-static size_t put_before_value(struct writer *w, const char *name, const struct numeric *n)
-{
-    size_t body = entry(w, 12, 0, 0);
-    size_t from;
+/* Where the pieces of an attribute begin. */
+struct pieces {
+    size_t body;
+    size_t name;
+    size_t type;
+    size_t space;
+    size_t value;
+};
 
+/* An attribute up to its value. The sizes of name, type and space are below 256. */
+static struct pieces put_before_value(struct writer *w, const char *name, const struct numeric *n,
+                                      const struct space *s)
+{
+    struct pieces p;
+
+    p.body = entry(w, 12, 0, 0);
     put(w, n->version, 1);
     put(w, 0, n->version == 1 ? 7 : 8);
-    from = w->count;
+    p.name = w->count;
     put_text(w, name);
     put(w, 0, 1);
-    end_field(w, n, body + 2, from);
-    from = w->count;
+    end_field(w, n, p.body + 2, p.name);
+    p.type = w->count;
     put_type(w, n);
-    end_field(w, n, body + 4, from);
-    from = w->count;
-    put_space(w, n);
-    end_field(w, n, body + 6, from);
-    return body;
+    end_field(w, n, p.body + 4, p.type);
+    p.space = w->count;
+    put_space(w, s);
+    end_field(w, n, p.body + 6, p.space);
+    p.value = w->count;
+    return p;
 }
 
 /* The entry's size, below 256, by what is written of its body. */
@@ -1720,28 +1792,30 @@ static void end_entry(struct writer *w, size_t body)
     w->bytes[body - 3] = (uint8_t)(w->count - body);
 }
 
-static size_t put_numeric(struct writer *w, const char *name, const struct numeric *n)
+/* As many elements as the last size says, whatever the space. */
+static struct pieces put_numeric(struct writer *w, const char *name, const struct numeric *n,
+                                 const struct space *s)
 {
-    size_t body = put_before_value(w, name, n);
+    struct pieces p = put_before_value(w, name, n, s);
     uint64_t i;
 
     for (i = 0; i < n->last; i++) {
         put_element(w, n);
     }
-    end_entry(w, body);
-    return body;
+    end_entry(w, p.body);
+    return p;
 }
 
-/* The row of an attribute that was written last, up to its number. */
-static void expect_numeric(uint64_t *row, const struct writer *w, size_t body, const char *name,
-                           const struct numeric *n)
+/* The row of an attribute without a value. */
+static void expect_attribute(uint64_t *row, const struct writer *w, const struct pieces *p,
+                             const char *name)
 {
     memset(row, 0, DOWRINGAF_ROW_WORDS * sizeof *row);
     row[DOWRINGAF_ROW_TYPE] = 12;
-    row[DOWRINGAF_ROW_SIZE] = w->count - body;
-    row[DOWRINGAF_ROW_BODY] = body;
+    row[DOWRINGAF_ROW_SIZE] = w->bytes[p->body - 3];
+    row[DOWRINGAF_ROW_BODY] = p->body;
     row[DOWRINGAF_ROW_NAME] = 1;
-    row[DOWRINGAF_ROW_NAME_POSITION] = body + (n->version == 1 ? 8 : 9);
+    row[DOWRINGAF_ROW_NAME_POSITION] = p->name;
     row[DOWRINGAF_ROW_NAME_LENGTH] = strlen(name);
 }
 
@@ -1765,21 +1839,31 @@ static void rows_are(const struct writer *w, size_t bytes, size_t position, size
     free(o);
 }
 
+/* The same of a header at the file's beginning without records, and every word of its object. */
+static void attributes_are(const struct writer *w, const uint64_t *expected, size_t rows)
+{
+    dowringaf_object o = read_messages(w, rows);
+
+    rows_are(w, w->count, 0, w->count, expected, rows);
+    object_is(w->bytes, w->count, 0, OFFSET, w->count, &o);
+}
+
 /* Such an attribute and, behind it, a message without a body. */
-static void number_is(const struct numeric *n, uint64_t number, uint64_t bits)
+static void number_is(const struct numeric *n, const struct space *s, uint64_t number,
+                      uint64_t bits)
 {
     uint64_t expected[2 * DOWRINGAF_ROW_WORDS] = {0};
     struct writer w;
-    size_t body;
+    struct pieces p;
 
     begin_header(&w);
-    body = put_numeric(&w, "Rate", n);
-    expect_numeric(expected, &w, body, "Rate", n);
+    p = put_numeric(&w, "Rate", n, s);
+    expect_attribute(expected, &w, &p, "Rate");
     expected[DOWRINGAF_ROW_NUMBER] = number;
     expected[DOWRINGAF_ROW_NUMBER_BITS] = bits;
     expected[DOWRINGAF_ROW_WORDS + DOWRINGAF_ROW_BODY] = entry(&w, 0, 0, 0);
     end_header(&w);
-    rows_are(&w, w.count, 0, w.count, expected, 2);
+    attributes_are(&w, expected, 2);
 }
 
 /* In both byte orders, and in both versions. */
@@ -1788,9 +1872,12 @@ static void number_is_read(struct numeric n, uint64_t number, uint64_t bits)
     int i;
 
     for (i = 0; i < 4; i++) {
+        struct space s;
+
         n.version = i < 2 ? 3 : 1;
         n.class_bits ^= HIGHEST_FIRST;
-        number_is(&n, number, bits);
+        s = space_of(&n);
+        number_is(&n, &s, number, bits);
     }
 }
 
@@ -1975,15 +2062,16 @@ static void test_cut_number(void)
     enum { SUM = 4, BYTES = 8 };
     uint64_t expected[DOWRINGAF_ROW_WORDS];
     struct numeric n = real(BYTES, 0, 0);
+    struct space s = space_of(&n);
     struct writer w;
-    size_t body;
+    struct pieces p;
     size_t end;
     size_t i;
 
     begin_header(&w);
-    body = put_before_value(&w, "Rate", &n);
-    end_entry(&w, body);
-    expect_numeric(expected, &w, body, "Rate", &n);
+    p = put_before_value(&w, "Rate", &n, &s);
+    end_entry(&w, p.body);
+    expect_attribute(expected, &w, &p, "Rate");
     end = w.count;
     end_header(&w);
     put(&w, 0x7FF40000, BYTES - SUM);
@@ -2040,25 +2128,51 @@ static void write_numbers(struct writer *w, uint64_t expected[NAMED * DOWRINGAF_
 {
     size_t i;
 
-    w->count = SUPERBLOCK;
-    put_text(w, "xyz");
-    put_text(w, "OHDR");
-    put(w, 2, 1);
-    put(w, 1, 1);
-    put(w, 0, 2);
+    begin_root(w);
     for (i = 0; i < NAMED; i++) {
         const struct numeric *n = &named[i].attribute;
         uint64_t *row = expected + i * DOWRINGAF_ROW_WORDS;
-        size_t body = put_numeric(w, named[i].name, n);
+        struct space s = space_of(n);
+        struct pieces p = put_numeric(w, named[i].name, n, &s);
 
-        expect_numeric(row, w, body, named[i].name, n);
+        expect_attribute(row, w, &p, named[i].name);
         row[DOWRINGAF_ROW_NUMBER] = named[i].number;
         row[DOWRINGAF_ROW_NUMBER_BITS] = named[i].bits;
     }
-    w->bytes[HEADER_FROM + 6] = (uint8_t)((w->count - HEADER_FROM - 8) % 256);
-    w->bytes[HEADER_FROM + 7] = (uint8_t)((w->count - HEADER_FROM - 8) / 256);
-    put_sum(w, HEADER_FROM);
+    end_root(w);
     write_front(w, UINT64_MAX, w->count);
+}
+
+/* A name or a part as it is listed: two words, after one that says whether they are present. */
+static size_t list_pair(char *at, const uint64_t *present)
+{
+    if (present[0] == 0) {
+        return (size_t)sprintf(at, ",-,-");
+    }
+    return (size_t)sprintf(at, ",%u,%u", (unsigned)present[1], (unsigned)present[2]);
+}
+
+/* The root's header, which the file ends with: its rows by every way, and as they are listed. */
+static void root_rows_are(const struct writer *w, const uint64_t *expected, size_t rows)
+{
+    char listing[1024];
+    size_t at = 0;
+    size_t i;
+
+    rows_are(w, w->count, HEADER_FROM, w->count, expected, rows);
+    root_is_by_hand(w, w->count, w->count, rows * DOWRINGAF_ROW_WORDS, rows);
+    for (i = 0; i < rows; i++) {
+        const uint64_t *row = expected + i * DOWRINGAF_ROW_WORDS;
+
+        at += (size_t)sprintf(listing + at, "%u,%u,%u,%u,%u", (unsigned)i,
+                              (unsigned)row[DOWRINGAF_ROW_TYPE], (unsigned)row[DOWRINGAF_ROW_FLAGS],
+                              (unsigned)row[DOWRINGAF_ROW_SIZE], (unsigned)row[DOWRINGAF_ROW_BODY]);
+        at += list_pair(listing + at, row + DOWRINGAF_ROW_NAME);
+        at += list_pair(listing + at, row + DOWRINGAF_ROW_PART);
+        listing[at++] = '\n';
+    }
+    sprintf(listing + at, "end,%u,%u\n", (unsigned)w->count, (unsigned)rows);
+    listing_is(w->bytes, w->count, listing);
 }
 
 /* Each is found by its name, and no number is listed. */
@@ -2066,25 +2180,14 @@ static void test_named_numbers(void)
 {
     enum { WORDS = NAMED * DOWRINGAF_ROW_WORDS };
     uint64_t expected[WORDS];
-    char listing[NAMED * 64];
     struct writer w;
-    size_t at = 0;
     size_t i;
 
     write_numbers(&w, expected);
-    rows_are(&w, w.count, HEADER_FROM, w.count, expected, NAMED);
-    root_is_by_hand(&w, w.count, w.count, WORDS, NAMED);
+    root_rows_are(&w, expected, NAMED);
     for (i = 0; i < NAMED; i++) {
-        const uint64_t *row = expected + i * DOWRINGAF_ROW_WORDS;
-
         look_up(w.bytes, w.count, expected, WORDS, NAMED, named[i].name, 0, 1, i);
-        at += (size_t)sprintf(listing + at, "%u,12,0,%u,%u,%u,%u,-,-\n", (unsigned)i,
-                              (unsigned)row[DOWRINGAF_ROW_SIZE], (unsigned)row[DOWRINGAF_ROW_BODY],
-                              (unsigned)row[DOWRINGAF_ROW_NAME_POSITION],
-                              (unsigned)row[DOWRINGAF_ROW_NAME_LENGTH]);
     }
-    sprintf(listing + at, "end,%u,%u\n", (unsigned)w.count, (unsigned)NAMED);
-    listing_is(w.bytes, w.count, listing);
 }
 
 static void test_numbers(void)
@@ -2096,6 +2199,434 @@ static void test_numbers(void)
     test_one_element();
     test_cut_number();
     test_named_numbers();
+}
+
+/* Dataspaces of every kind, and their elements. In version 1 a kind is reserved bytes. */
+static const struct counted {
+    struct space space;
+    dowringaf_elements elements;
+} counted[] = {
+    {{2, 0, 0, 0, {0}, {0}}, {0, 1}},
+    {{2, 0, 0, 1, {0}, {0}}, {0, 1}},
+    {{2, 0, 0, 2, {0}, {0}}, {0, 0}},
+    {{2, 0, 1, 2, {0}, {0}}, {0, 0}},
+    {{2, 0, 0, 3, {0}, {0}}, {0, 1}},
+    {{2, 0, 0, 0x82, {0}, {0}}, {0, 1}},
+    {{2, 0, 0, 255, {0}, {0}}, {0, 1}},
+    {{2, 1, 0, 1, {0}, {0}}, {0, 0}},
+    {{2, 1, 0, 1, {1}, {0}}, {0, 1}},
+    {{2, 1, 0, 0, {5}, {0}}, {0, 5}},
+    {{2, 1, 0, 2, {0}, {0}}, {0, 0}},
+    {{2, 1, 0, 2, {1}, {0}}, {0, 0}},
+    {{2, 1, 0, 2, {1000000}, {0}}, {0, 0}},
+    {{2, 1, 0, 1, {1000000}, {0}}, {0, 1000000}},
+    {{2, 1, 1, 1, {0}, {5}}, {0, 0}},
+    {{2, 1, 1, 1, {5}, {0}}, {0, 5}},
+    {{2, 2, 1, 1, {2, 3}, {1000000, 0xFFFFFFFFu}}, {0, 6}},
+    {{2, 2, 1, 2, {2, 3}, {1000000, 0xFFFFFFFFu}}, {0, 0}},
+    {{2, 3, 0, 77, {1000000, 1000000, 1000000}, {0}}, {0, 1000000000000000000u}},
+    {{2, 4, 0, 2, {1, 1, 1, 1}, {0}}, {0, 0}},
+    {{2, 4, 0, 2, {65536, 65536, 65536, 65536}, {0}}, {0, 0}},
+    {{2, 4, 0, 0, {65536, 65536, 65536, 65536}, {0}}, {1, 0}},
+    {{2, 4, 1, 1, {1, 2, 3, 4}, {65536, 65536, 65536, 65536}}, {0, 24}},
+    {{1, 0, 0, 0, {0}, {0}}, {0, 1}},
+    {{1, 0, 0, 2, {0}, {0}}, {0, 1}},
+    {{1, 1, 0, 0, {0}, {0}}, {0, 0}},
+    {{1, 2, 1, 0x0202020202u, {3, 4}, {5, 6}}, {0, 12}},
+    {{1, 4, 0, 2, {1000000, 1000000, 1000000, 1000000}, {0}}, {1, 0}},
+};
+
+enum { COUNTED = sizeof counted / sizeof counted[0] };
+
+static dowringaf_dimensions dimensions_of(uint64_t count, const uint64_t *numbers)
+{
+    dowringaf_dimensions dimensions = {0, {0}};
+
+    dimensions.count = count;
+    memcpy(dimensions.sizes, numbers, (size_t)count * sizeof *numbers);
+    return dimensions;
+}
+
+static dowringaf_dataspace dataspace_of(const struct counted *c)
+{
+    const struct space *s = &c->space;
+    dowringaf_dataspace read;
+
+    read.dimensionality = s->count;
+    read.flags = s->flags;
+    read.kind.present = s->version == 2 ? 1 : 0;
+    read.kind.value = s->version == 2 ? s->kind : 0;
+    read.size = dimensions_of(s->count, s->sizes);
+    read.maximum_size = dimensions_of(s->flags & 1 ? s->count : 0, s->maxima);
+    read.elements = c->elements;
+    return read;
+}
+
+static void put_dataspace(struct writer *w, const struct space *s)
+{
+    size_t body = entry(w, 1, 0, 0);
+
+    put_space(w, s);
+    end_entry(w, body);
+}
+
+/* A header with some of these dataspaces: the last wins, with its own elements. */
+static void spaces_are(const struct counted *const *spaces, size_t count)
+{
+    struct writer w;
+    dowringaf_object o;
+    size_t i;
+
+    begin_header(&w);
+    for (i = 0; i < count; i++) {
+        put_dataspace(&w, &spaces[i]->space);
+    }
+    end_header(&w);
+    o = read_messages(&w, count);
+    o.dataspace = dataspace_of(spaces[count - 1]);
+    object_is(w.bytes, w.count, 0, OFFSET, w.count, &o);
+}
+
+/* Each alone, and each behind each. */
+static void test_spaces(void)
+{
+    const struct counted *spaces[2];
+    size_t i;
+    size_t j;
+
+    for (i = 0; i < COUNTED; i++) {
+        spaces[0] = &counted[i];
+        spaces_are(spaces, 1);
+        for (j = 0; j < COUNTED; j++) {
+            spaces[1] = &counted[j];
+            spaces_are(spaces, 2);
+        }
+    }
+}
+
+/* Four sizes in every order, in both versions. */
+static void product_is(const uint64_t given[4], const dowringaf_elements *elements)
+{
+    struct counted c = {{0, 4, 0, 0, {0}, {0}}, {0, 0}};
+    const struct counted *space = &c;
+    int i;
+
+    c.elements = *elements;
+    for (i = 0; i < 128; i++) {
+        int places[3] = {i & 3, i >> 2 & 3, i >> 4 & 3};
+
+        if (places[0] != places[1] && places[0] != places[2] && places[1] != places[2]) {
+            c.space.version = i < 64 ? 2 : 1;
+            c.space.sizes[places[0]] = given[0];
+            c.space.sizes[places[1]] = given[1];
+            c.space.sizes[places[2]] = given[2];
+            c.space.sizes[6 - places[0] - places[1] - places[2]] = given[3];
+            spaces_are(&space, 1);
+        }
+    }
+}
+
+/*
+ * Around 2^64. Its predecessor has a prime factor above 1,000,000; so 2^64 - 2 is the greatest
+ * number of elements. From 2^64 on the next product is 2^64 + 4; another one is 56 * 2^64 + 1.
+ */
+static void test_products(void)
+{
+    static const struct {
+        uint64_t sizes[4];
+        dowringaf_elements elements;
+    } products[] = {
+        {{73, 599186, 649159, 649657}, {0, UINT64_MAX - 1}},
+        {{65536, 65536, 65536, 65536}, {1, 0}},
+        {{5581, 8681, 494770, 769546}, {1, 0}},
+        {{10119, 335647, 469411, 647939}, {1, 0}},
+        {{1000000, 1000000, 1000000, 1000000}, {1, 0}},
+        {{65535, 65536, 65536, 65536}, {0, 0xFFFF000000000000u}},
+        {{65537, 65536, 65536, 65536}, {1, 0}},
+        {{32768, 65536, 65536, 65536}, {0, 0x8000000000000000u}},
+        {{18, 1000000, 1000000, 1000000}, {0, 18000000000000000000u}},
+        {{19, 1000000, 1000000, 1000000}, {1, 0}},
+        {{1, 1000000, 1000000, 1000000}, {0, 1000000000000000000u}},
+        {{0, 1000000, 1000000, 1000000}, {0, 0}},
+        {{0, 0, 65536, 65536}, {0, 0}},
+        {{1, 1, 1, 1}, {0, 1}},
+    };
+    size_t i;
+
+    for (i = 0; i < sizeof products / sizeof products[0]; i++) {
+        product_is(products[i].sizes, &products[i].elements);
+    }
+}
+
+/* The sizes of a null dataspace are tested as those of any. */
+static void test_refused_spaces(void)
+{
+    static const struct space spaces[] = {
+        {2, 1, 0, 2, {1000001}, {0}},
+        {2, 2, 0, 2, {0, 0xFFFFFFFFu}, {0}},
+        {2, 4, 0, 2, {1, 1, 1, 1000001}, {0}},
+        {2, 1, 1, 2, {1}, {1000001}},
+        {2, 4, 1, 2, {1, 1, 1, 1}, {1, 1, 1, 1000001}},
+        {3, 0, 0, 2, {0}, {0}},
+    };
+    struct writer w;
+    size_t i;
+
+    for (i = 0; i < sizeof spaces / sizeof spaces[0]; i++) {
+        begin_header(&w);
+        put_dataspace(&w, &counted[0].space);
+        put_dataspace(&w, &spaces[i]);
+        end_header(&w);
+        refuse(w.bytes, w.count, 0, OFFSET, LENT, DOWRINGAF_DATASPACE);
+    }
+}
+
+/*
+ * How an attribute is read of which nothing is written behind its space: it has an empty text, or
+ * no value; or it is a list whose size is passed; or it fails, and its type is where it ends.
+ */
+enum reading { EMPTY_TEXT, NO_VALUE, PASSED, FAILED };
+
+/*
+ * Such an attribute and, behind it, a message without a body. Without a size of its entry the next
+ * one begins where the attribute ends; that of one that fails is its own type, the class bits of
+ * which say how far the message is.
+ */
+static void reading_is(const struct numeric *n, const struct space *s, enum reading reading,
+                       int has_size)
+{
+    uint64_t expected[3 * DOWRINGAF_ROW_WORDS] = {0};
+    uint64_t *next = expected + DOWRINGAF_ROW_WORDS;
+    struct writer w;
+    struct pieces p;
+
+    begin_header(&w);
+    p = put_before_value(&w, "Text", n, s);
+    put(&w, 0, reading == PASSED ? (int)n->list_size : 0);
+    if (has_size) {
+        end_entry(&w, p.body);
+    }
+    expect_attribute(expected, &w, &p, "Text");
+    if (reading == EMPTY_TEXT) {
+        expected[DOWRINGAF_ROW_PART] = 1;
+        expected[DOWRINGAF_ROW_PART_POSITION] = p.value;
+    }
+    if (reading == FAILED && !has_size) {
+        w.bytes[p.type + 1] = (uint8_t)(p.value - p.type - 4);
+        next[DOWRINGAF_ROW_TYPE] = w.bytes[p.type];
+        next[DOWRINGAF_ROW_SIZE] = w.bytes[p.type + 1];
+        next[DOWRINGAF_ROW_BODY] = p.type + 4;
+        next += DOWRINGAF_ROW_WORDS;
+    }
+    next[DOWRINGAF_ROW_BODY] = entry(&w, 0, 0, 0);
+    end_header(&w);
+    attributes_are(&w, expected, (size_t)(next - expected) / DOWRINGAF_ROW_WORDS + 1);
+}
+
+/* In both versions of attributes, with and without a size of the entry. */
+static void attribute_is_read(struct numeric n, const struct space *s, enum reading reading)
+{
+    int i;
+
+    for (i = 0; i < 4; i++) {
+        n.version = i < 2 ? 3 : 1;
+        reading_is(&n, s, reading, i % 2);
+    }
+}
+
+/* Null dataspaces, with sizes and without. */
+static const struct space null_spaces[] = {
+    {2, 0, 0, 2, {0}, {0}},
+    {2, 1, 0, 2, {0}, {0}},
+    {2, 1, 0, 2, {3}, {0}},
+    {2, 2, 1, 2, {1, 1}, {7, 0xFFFFFFFFu}},
+    {2, 4, 0, 2, {1, 1, 1, 1}, {0}},
+    {2, 4, 0, 2, {65536, 65536, 65536, 65536}, {0}},
+};
+
+enum { NULL_SPACES = sizeof null_spaces / sizeof null_spaces[0] };
+
+/* Every class. A list uses the bytes of its size, and fails above 12, whatever its elements. */
+static void test_null_attributes(void)
+{
+    static const struct {
+        struct numeric attribute;
+        enum reading reading;
+    } forms[] = {
+        {{0, TEXT, 0, 1, 0, 0, 0, 0, 0, 0, 0}, EMPTY_TEXT},
+        {{0, TEXT, 0, 5, 0, 0, 0, 0, 0, 0, 0}, EMPTY_TEXT},
+        {{0, TEXT, 0x10, 63, 0, 0, 0, 0, 0, 0, 0}, EMPTY_TEXT},
+        {{0, TEXT, 0, 0, 0, 0, 0, 0, 0, 0, 0}, NO_VALUE},
+        {{0, FIXED, 0, 0, 0, 0, 0, 0, 0, 0, 0}, NO_VALUE},
+        {{0, FIXED, 0, 1, 0, 8, 0, 0, 0, 0, 0}, NO_VALUE},
+        {{0, FIXED, 8, 2, 0, 16, 0, 0, 0, 0, 0}, NO_VALUE},
+        {{0, FIXED, 0, 3, 0, 24, 0, 0, 0, 0, 0}, NO_VALUE},
+        {{0, FIXED, 9, 4, 0, 32, 0, 0, 0, 0, 0}, NO_VALUE},
+        {{0, FIXED, 1, 8, 0, 64, 0, 0, 0, 0, 0}, NO_VALUE},
+        {{0, FIXED, 0, 63, 0, 504, 0, 0, 0, 0, 0}, NO_VALUE},
+        {{0, FLOAT, 0x1F20, 4, 0, 32, 0, 0, 0, 0, 0}, NO_VALUE},
+        {{0, FLOAT, 0x3F21, 8, 0, 64, 0, 0, 0, 0, 0}, NO_VALUE},
+        {{0, COMPOUND, 0, 0, 0, 0, 0, 0, 0, 0, 0}, NO_VALUE},
+        {{0, COMPOUND, 0, 8, 0, 0, 0, 0, 0, 0, 0}, NO_VALUE},
+        {{0, REFERENCE, 0, 8, 0, 0, 0, 0, 0, 0, 0}, NO_VALUE},
+        {{0, FIXED, 0, 4, 0, 32, 1, 0, 0, 0, 0}, PASSED},
+        {{0, FIXED, 0, 4, 0, 32, 4, 0, 0, 0, 0}, PASSED},
+        {{0, FLOAT, 0x3F20, 8, 0, 64, 8, 0, 0, 0, 0}, PASSED},
+        {{0, TEXT, 0, 1, 0, 0, 12, 0, 0, 0, 0}, PASSED},
+        {{0, TEXT, 0, 1, 0, 0, 13, 0, 0, 0, 0}, FAILED},
+        {{0, TEXT, 0, 1, 0, 0, 16, 0, 0, 0, 0}, FAILED},
+        {{0, FIXED, 0, 4, 0, 32, 63, 0, 0, 0, 0}, FAILED},
+    };
+    size_t i;
+    size_t j;
+
+    for (i = 0; i < sizeof forms / sizeof forms[0]; i++) {
+        for (j = 0; j < NULL_SPACES; j++) {
+            attribute_is_read(forms[i].attribute, &null_spaces[j], forms[i].reading);
+        }
+    }
+}
+
+/* No elements for another reason, too many, and a size that a null dataspace must not have. */
+static void test_other_elements(void)
+{
+    static const struct space none = {2, 2, 0, 1, {3, 0}, {0}};
+    static const struct space half = {2, 4, 0, 1, {65536, 65536, 65536, 32768}, {0}};
+    static const struct space too_many = {2, 4, 0, 1, {65536, 65536, 65536, 65536}, {0}};
+    static const struct space one_more = {2, 4, 0, 1, {10119, 335647, 469411, 647939}, {0}};
+    static const struct space refused = {2, 1, 0, 2, {1000001}, {0}};
+    static const struct {
+        struct numeric attribute;
+        const struct space *space;
+        enum reading reading;
+    } forms[] = {
+        {{0, TEXT, 0, 5, 0, 0, 0, 0, 0, 0, 0}, &none, EMPTY_TEXT},
+        {{0, TEXT, 0, 0, 0, 0, 0, 0, 0, 0, 0}, &none, NO_VALUE},
+        {{0, TEXT, 0, 2, 0, 0, 0, 0, 0, 0, 0}, &half, FAILED},
+        {{0, TEXT, 0, 1, 0, 0, 0, 0, 0, 0, 0}, &too_many, FAILED},
+        {{0, TEXT, 0, 0, 0, 0, 0, 0, 0, 0, 0}, &too_many, NO_VALUE},
+        {{0, TEXT, 0, 1, 0, 0, 0, 0, 0, 0, 0}, &one_more, FAILED},
+        {{0, TEXT, 0, 1, 0, 0, 0, 0, 0, 0, 0}, &refused, FAILED},
+        {{0, FIXED, 0, 4, 0, 32, 0, 0, 0, 0, 0}, &none, NO_VALUE},
+        {{0, FIXED, 0, 2, 0, 16, 0, 0, 0, 0, 0}, &half, NO_VALUE},
+        {{0, FIXED, 0, 1, 0, 8, 0, 0, 0, 0, 0}, &too_many, NO_VALUE},
+        {{0, FIXED, 0, 0, 0, 0, 0, 0, 0, 0, 0}, &too_many, NO_VALUE},
+        {{0, FIXED, 0, 1, 0, 8, 0, 0, 0, 0, 0}, &one_more, NO_VALUE},
+        {{0, FLOAT, 0x3F20, 8, 0, 64, 0, 0, 0, 0, 0}, &one_more, NO_VALUE},
+        {{0, TEXT, 0, 1, 0, 0, 12, 0, 0, 0, 0}, &too_many, PASSED},
+        {{0, TEXT, 0, 1, 0, 0, 16, 0, 0, 0, 0}, &too_many, FAILED},
+    };
+    size_t i;
+
+    for (i = 0; i < sizeof forms / sizeof forms[0]; i++) {
+        attribute_is_read(forms[i].attribute, forms[i].space, forms[i].reading);
+    }
+}
+
+/* A value that is there is a number for every kind but 2, and in version 1, which has none. */
+static void test_kinds(void)
+{
+    static const uint64_t kinds[] = {0, 1, 3, 0x82, 254, 255};
+    static const struct space reserved = {1, 0, 0, 0x0202020202u, {0}, {0}};
+    struct space s = {2, 0, 0, 0, {1}, {0}};
+    struct numeric n = whole(4, WITH_SIGN, 48000);
+    size_t i;
+
+    for (n.version = 1; n.version <= 3; n.version += 2) {
+        number_is(&n, &reserved, DOWRINGAF_NUMBER_SIGNED, 48000);
+        for (i = 0; i < sizeof kinds / sizeof kinds[0]; i++) {
+            s.kind = kinds[i];
+            for (s.count = 0; s.count < 2; s.count++) {
+                number_is(&n, &s, DOWRINGAF_NUMBER_SIGNED, 48000);
+            }
+        }
+        for (i = 0; i < NULL_SPACES; i++) {
+            number_is(&n, &null_spaces[i], DOWRINGAF_NUMBER_NONE, 0);
+        }
+    }
+}
+
+/* The attributes of a file that are in null dataspaces, and how they are read. */
+static const struct {
+    const char *name;
+    enum reading reading;
+    struct numeric attribute;
+} nulls[] = {
+    {"Title", EMPTY_TEXT, {3, TEXT, 0, 5, 0, 0, 0, 0, 0, 0, 0}},
+    {"Comment", EMPTY_TEXT, {1, TEXT, 0, 16, 0, 0, 0, 0, 0, 0, 0}},
+    {"SamplingRate", NO_VALUE, {3, FIXED, 0, 4, 0, 32, 0, 0, 0, 0, 0}},
+    {"Gain", NO_VALUE, {1, FLOAT, 0x1F20, 4, 0, 32, 0, 0, 0, 0, 0}},
+    {"History", FAILED, {3, TEXT, 0, 1, 0, 0, 16, 0, 0, 0, 0}},
+};
+
+/* Behind them a number stands, and a null dataspace with a size. */
+enum { NULLS = sizeof nulls / sizeof nulls[0], NULL_ROWS = NULLS + 2 };
+
+static void write_null(struct writer *w, uint64_t *row, const char *name, enum reading reading,
+                       const struct numeric *n)
+{
+    struct pieces p = put_numeric(w, name, n, &null_spaces[0]);
+
+    expect_attribute(row, w, &p, name);
+    if (reading == EMPTY_TEXT) {
+        row[DOWRINGAF_ROW_PART] = 1;
+        row[DOWRINGAF_ROW_PART_POSITION] = p.value;
+    }
+}
+
+/* The file, and the rows of its root's header. */
+static void write_nulls(struct writer *w, uint64_t expected[NULL_ROWS * DOWRINGAF_ROW_WORDS])
+{
+    static const struct space with_size = {2, 1, 0, 2, {3}, {0}};
+    uint64_t *number = expected + NULLS * DOWRINGAF_ROW_WORDS;
+    uint64_t *space = number + DOWRINGAF_ROW_WORDS;
+    struct numeric channels = whole(1, 0, 2);
+    struct space one = space_of(&channels);
+    struct pieces p;
+    size_t i;
+
+    begin_root(w);
+    for (i = 0; i < NULLS; i++) {
+        write_null(w, expected + i * DOWRINGAF_ROW_WORDS, nulls[i].name, nulls[i].reading,
+                   &nulls[i].attribute);
+    }
+    p = put_numeric(w, "Channels", &channels, &one);
+    expect_attribute(number, w, &p, "Channels");
+    number[DOWRINGAF_ROW_NUMBER] = DOWRINGAF_NUMBER_UNSIGNED;
+    number[DOWRINGAF_ROW_NUMBER_BITS] = 2;
+    memset(space, 0, DOWRINGAF_ROW_WORDS * sizeof *space);
+    space[DOWRINGAF_ROW_TYPE] = 1;
+    space[DOWRINGAF_ROW_SIZE] = 4 + LENGTH;
+    space[DOWRINGAF_ROW_BODY] = w->count + 4;
+    put_dataspace(w, &with_size);
+    end_root(w);
+    write_front(w, UINT64_MAX, w->count);
+}
+
+/* An empty text is listed, and each is found by its name. */
+static void test_named_nulls(void)
+{
+    enum { WORDS = NULL_ROWS * DOWRINGAF_ROW_WORDS };
+    uint64_t expected[WORDS];
+    struct writer w;
+    size_t i;
+
+    write_nulls(&w, expected);
+    root_rows_are(&w, expected, NULL_ROWS);
+    for (i = 0; i < NULLS; i++) {
+        look_up(w.bytes, w.count, expected, WORDS, NULL_ROWS, nulls[i].name, 0, 1, i);
+    }
+}
+
+static void test_elements(void)
+{
+    test_spaces();
+    test_products();
+    test_refused_spaces();
+    test_null_attributes();
+    test_other_elements();
+    test_kinds();
+    test_named_nulls();
 }
 
 /* Something that closes with a sum: where that begins and stands, and a byte that may be any. */
@@ -2448,29 +2979,30 @@ static int write_file(const char *path, const struct writer *w)
     return written;
 }
 
-/* Writes the full header, the one with undefined addresses and the numbers, for other programs. */
+/* Writes the full header, that with undefined addresses, the numbers and the nulls, for others. */
 static int write_files(char **paths)
 {
     uint64_t rows[NAMED * DOWRINGAF_ROW_WORDS];
+    uint64_t null_rows[NULL_ROWS * DOWRINGAF_ROW_WORDS];
     struct writer w;
     struct places p;
+    int written;
 
     write_full(&w, &p);
-    if (!write_file(paths[0], &w)) {
-        return 0;
-    }
+    written = write_file(paths[0], &w);
     write_undefined(&w, &p);
-    if (!write_file(paths[1], &w)) {
-        return 0;
-    }
+    written &= write_file(paths[1], &w);
     write_numbers(&w, rows);
-    return write_file(paths[2], &w);
+    written &= write_file(paths[2], &w);
+    write_nulls(&w, null_rows);
+    written &= write_file(paths[3], &w);
+    return written;
 }
 
-/* With three paths, also writes the three files there. */
+/* With four paths, also writes the four files there. */
 int main(int count, char **words)
 {
-    if (count == 4 && !write_files(words + 1)) {
+    if (count == 5 && !write_files(words + 1)) {
         return 2;
     }
     test_full();
@@ -2494,6 +3026,7 @@ int main(int count, char **words)
     test_root();
     test_far_roots();
     test_numbers();
+    test_elements();
     test_sums();
     test_sum_order();
     test_taken();
