@@ -21,7 +21,7 @@ use Rattle.grammar.specs.Walk.{reached, stopped, lent}
 use Rattle.grammar.specs.WalkLaws.{same-reached}
 use Rattle.grammar.specs.Filled.{filled-table}
 use Rattle.ohdr_info.specs.Info.{linkInfo, groupInfo, attributeInfo}
-use Rattle.ohdr_storage.specs.Storage.{dataLayout}
+use Rattle.ohdr_layout.specs.DataLayouts.{dataLayout}
 use Rattle.ohdr_datatype.specs.DataTypes.{dataType, typeLevels}
 use Rattle.ohdr_dataspace.specs.DataSpaces.{dataSpace}
 use Rattle.ohdr_closing.specs.declared.Progress.{Progress}

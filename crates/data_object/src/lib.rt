@@ -11,7 +11,7 @@ use data_object_winners::winning_group_info;
 use data_object_winners::winning_link_info;
 use ohdr_closing::Limits;
 use ohdr_closing::Progress;
-use ohdr_storage::contiguous_bytes;
+use ohdr_layout::contiguous_bytes;
 use parser::State;
 use records::AttributeInfo;
 use records::DataLayout;

@@ -7,7 +7,7 @@ use Rattle.format.specs.Format.{Out, found, refused, read, bind, times}
 use Rattle.ohdr_info.specs.Info.{cond, groupInfo}
 use Rattle.helpers.specs.Addresses.{address, definedAddress}
 use Rattle.ohdr_entry.specs.Continuations.{continuation}
-use Rattle.ohdr_storage.specs.Storage.{dataFrom, rawData, contiguous, dataLayout}
+use Rattle.ohdr_layout.specs.DataLayouts.{dataFrom, rawData, contiguous, dataLayout}
 use Rattle.ohdr_datatype.specs.DataTypes.{dataType, typeLayer, dataTypeHeader, knownType, knownClass, properties, plain}
 use Rattle.ohdr_dataspace.specs.DataSpaces.{dataSpace, dataSpace2, dimensions, dimensionsFrom, dimension, maximumSizes}
 use Rattle.grammar.specs.Grammar.{ochk, blockEnd, headerEnd}

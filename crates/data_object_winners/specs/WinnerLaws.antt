@@ -25,7 +25,8 @@ use Rattle.row.specs.RowLaws.{written-read}
 use Rattle.ohdr_walk.specs.Sources.{source}
 use Rattle.data_object_header.specs.Headers.{HeaderReading}
 use Rattle.ohdr_info.specs.Info.{linkInfo, groupInfo, attributeInfo}
-use Rattle.ohdr_storage.specs.Storage.{dataLayout, fillOld, fill, filterPipeline}
+use Rattle.ohdr_storage.specs.Storage.{fillOld, fill, filterPipeline}
+use Rattle.ohdr_layout.specs.DataLayouts.{dataLayout}
 use Rattle.ohdr_datatype.specs.DataTypes.{dataType, typeLevels}
 use Rattle.ohdr_dataspace.specs.DataSpaces.{dataSpace}
 use Rattle.ohdr_attribute.specs.Attributes.{attribute}

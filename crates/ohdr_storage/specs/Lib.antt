@@ -1,3 +1,2 @@
 pub mod Storage
-pub mod Answers
 pub mod Facts

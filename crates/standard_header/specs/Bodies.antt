@@ -28,7 +28,8 @@ use Rattle.parser.specs.declared.State.{State}
 use Rattle.grammar.specs.Message.{Kept}
 use Rattle.grammar.specs.Message as messages
 use Rattle.ohdr_info.specs.Info.{linkInfo, groupInfo, attributeInfo}
-use Rattle.ohdr_storage.specs.Storage.{fillOld, fill, dataLayout, filterPipeline}
+use Rattle.ohdr_storage.specs.Storage.{fillOld, fill, filterPipeline}
+use Rattle.ohdr_layout.specs.DataLayouts.{dataLayout}
 use Rattle.ohdr_datatype.specs.DataTypes.{dataType, typeLevels}
 use Rattle.ohdr_dataspace.specs.DataSpaces.{dataSpace}
 use Rattle.ohdr_attribute.specs.Attributes.{attribute}

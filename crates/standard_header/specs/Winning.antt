@@ -18,7 +18,7 @@ use Rattle.grammar.specs.Grammar.{Item}
 use Rattle.grammar.specs.Table.{messagesOf}
 use Rattle.grammar.specs.Each.{All}
 use Rattle.ohdr_info.specs.Info.{linkInfo, groupInfo, attributeInfo}
-use Rattle.ohdr_storage.specs.Storage.{dataLayout}
+use Rattle.ohdr_layout.specs.DataLayouts.{dataLayout}
 use Rattle.ohdr_datatype.specs.DataTypes.{dataType, typeLevels}
 use Rattle.ohdr_dataspace.specs.DataSpaces.{dataSpace}
 use Rattle.ohdr_entry.specs.Entries.{body, plainBody, layoutBody}

@@ -15,7 +15,8 @@ use Rattle.records.specs.declared.DataLayout.{DataLayout}
 use Rattle.records.specs.Defaults.{emptyPart}
 use Rattle.parser.specs.declared.State.{State}
 use Rattle.parser.specs.States.{addressValid}
-use Rattle.ohdr_storage.specs.Storage.{fillOld, fillValue, contiguousPart, compact, dataFrom, rawData, contiguous, dataLayout}
+use Rattle.ohdr_storage.specs.Storage.{fillOld, fillValue}
+use Rattle.ohdr_layout.specs.DataLayouts.{contiguousPart, compact, dataFrom, rawData, contiguous, dataLayout}
 use Rattle.standard.specs.Tie.{Tied, tied-done, tied-number, tied-check, tied-only, tied-pick, tied-pick-left, tied-bind, tied-there-left, tied-refuse, tied-raw}
 use Rattle.standard.specs.Versions.{marked, tied-marked}
 use Rattle.standard_messages.specs.Addresses.{addressIn, address-tied}

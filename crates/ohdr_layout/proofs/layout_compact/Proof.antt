@@ -1,9 +1,9 @@
 -- The size is one step of the format, and so are the bytes passed over.
-use Rattle.ohdr_storage.specs.Storage.{compact}
+use Rattle.ohdr_layout.specs.DataLayouts.{compact}
 use Rattle.format.specs.Steps.{read-number, read-skip, read-done}
 use borrow.Author.Needs.{needs}
-use Rattle.ohdr_storage.proofs.layout_compact.Statement.{statement}
-use Rattle.ohdr_storage.proofs.layout_compact.Tie as tie
+use Rattle.ohdr_layout.proofs.layout_compact.Statement.{statement}
+use Rattle.ohdr_layout.proofs.layout_compact.Tie as tie
 
 le-u16-requires : tie.Need-le-u16-requires
 le-u16-requires c κs = search needs

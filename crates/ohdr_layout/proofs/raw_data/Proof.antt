@@ -1,9 +1,9 @@
 -- Undefined, there are none; else what the call reads.
 use Rattle.format.specs.Steps.{read-done}
-use Rattle.ohdr_storage.specs.Storage.{rawData}
+use Rattle.ohdr_layout.specs.DataLayouts.{rawData}
 use borrow.Author.Needs.{needs}
-use Rattle.ohdr_storage.proofs.raw_data.Statement.{statement}
-use Rattle.ohdr_storage.proofs.raw_data.Tie as tie
+use Rattle.ohdr_layout.proofs.raw_data.Statement.{statement}
+use Rattle.ohdr_layout.proofs.raw_data.Tie as tie
 
 enum-told : tie.Need-enum-told
 enum-told c = search needs

@@ -1,10 +1,10 @@
 -- The data are read by the call, and the test of the address is the format's own.
 use borrow.Author.Tests.{not-true, not-false}
 use Rattle.format.specs.Steps.{read-there, read-done}
-use Rattle.ohdr_storage.specs.Storage.{dataFrom}
+use Rattle.ohdr_layout.specs.DataLayouts.{dataFrom}
 use borrow.Author.Needs.{needs}
-use Rattle.ohdr_storage.proofs.data_from.Statement.{statement}
-use Rattle.ohdr_storage.proofs.data_from.Tie as tie
+use Rattle.ohdr_layout.proofs.data_from.Statement.{statement}
+use Rattle.ohdr_layout.proofs.data_from.Tie as tie
 
 is-address-valid-requires : tie.Need-is-address-valid-requires
 is-address-valid-requires c κs = search needs

@@ -1,7 +1,7 @@
 -- Empty or not: the test is that of the definition.
 use borrow.Author.Tests.{ne-eqb}
-use Rattle.ohdr_storage.proofs.part_of.Statement.{statement}
-use Rattle.ohdr_storage.proofs.part_of.Tie as tie
+use Rattle.ohdr_layout.proofs.part_of.Statement.{statement}
+use Rattle.ohdr_layout.proofs.part_of.Tie as tie
 
 returns : tie.Need-returns
 returns c = rw (c .if1 .taken)

@@ -1,13 +1,13 @@
 -- A part as long as the size is there just where the file has so many bytes from the address on.
 use Prim.Native.Nat.{_+_, _≤_}
 use lib.ListN.{length}
-use Rattle.ohdr_storage.specs.Facts.{part-cut, part-whole}
+use Rattle.ohdr_layout.specs.Facts.{part-cut, part-whole}
 use borrow.Author.Tests.{lt-leb, le-leb}
 use Rattle.format.specs.Steps.{bytes-room}
 use native.Mathlib.Omega.{arith}
 use borrow.Author.Needs.{needs}
-use Rattle.ohdr_storage.proofs.data_at.Statement.{statement}
-use Rattle.ohdr_storage.proofs.data_at.Tie as tie
+use Rattle.ohdr_layout.proofs.data_at.Statement.{statement}
+use Rattle.ohdr_layout.proofs.data_at.Tie as tie
 
 returns : tie.Need-returns
 returns c = rw (bytes-room, lt-leb (c .before .before .args .address + c .before .before .args .size) (length (c .before .before .args .file .now)) (omega arith))

@@ -3,10 +3,10 @@ use Rattle.format.specs.Format.{Out, found, refused}
 use Rattle.records.specs.Refusals.{refusalNumber}
 use Rattle.records.specs.declared.Part.{Part}
 use Rattle.records.specs.declared.DataLayout.{DataLayout}
-use Rattle.ohdr_storage.specs.declared.DataLayoutRead.{DataLayoutRead}
-use Rattle.ohdr_storage.specs.declared.DataLayoutRead.the-variants as layouts
-use Rattle.ohdr_storage.specs.declared.PartRead.{PartRead}
-use Rattle.ohdr_storage.specs.declared.PartRead.the-variants as parts
+use Rattle.ohdr_layout.specs.declared.DataLayoutRead.{DataLayoutRead}
+use Rattle.ohdr_layout.specs.declared.DataLayoutRead.the-variants as layouts
+use Rattle.ohdr_layout.specs.declared.PartRead.{PartRead}
+use Rattle.ohdr_layout.specs.declared.PartRead.the-variants as parts
 
 abbrev pub partOut : PartRead → Out Part
 partOut (parts.Read v q) = found v q

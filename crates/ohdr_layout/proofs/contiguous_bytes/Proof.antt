@@ -4,8 +4,8 @@ use borrow.Table.Elements.{length-take-le}
 use native.Mathlib.Omega.{arith}
 use mathlib.Core.Path.{sym}
 use borrow.Author.Needs.{needs}
-use Rattle.ohdr_storage.proofs.contiguous_bytes.Statement.{statement}
-use Rattle.ohdr_storage.proofs.contiguous_bytes.Tie as tie
+use Rattle.ohdr_layout.proofs.contiguous_bytes.Statement.{statement}
+use Rattle.ohdr_layout.proofs.contiguous_bytes.Tie as tie
 
 returns : tie.Need-returns
 returns c = sym (take-all (c .before .args .size) (c .before .args .from .now) (omega arith))

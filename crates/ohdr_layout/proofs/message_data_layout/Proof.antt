@@ -1,10 +1,10 @@
 -- Version and class are steps of the format, and the class chooses which call reads the rest.
-use Rattle.ohdr_storage.specs.Storage.{dataLayout}
+use Rattle.ohdr_layout.specs.DataLayouts.{dataLayout}
 use Rattle.format.specs.Steps.{read-number, read-refuse}
 use borrow.Author.Tests.{eq-eqb, ne-eqb}
 use borrow.Author.Needs.{needs}
-use Rattle.ohdr_storage.proofs.message_data_layout.Statement.{statement}
-use Rattle.ohdr_storage.proofs.message_data_layout.Tie as tie
+use Rattle.ohdr_layout.proofs.message_data_layout.Statement.{statement}
+use Rattle.ohdr_layout.proofs.message_data_layout.Tie as tie
 
 le-u8-requires : tie.Need-le-u8-requires
 le-u8-requires c κs = search needs

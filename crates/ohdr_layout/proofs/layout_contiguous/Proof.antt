@@ -1,10 +1,10 @@
 -- Address, size and data are steps of the format, and the test of the size is the format's own.
-use Rattle.ohdr_storage.specs.Storage.{contiguous}
+use Rattle.ohdr_layout.specs.DataLayouts.{contiguous}
 use borrow.Author.Tests.{lt-ltb, le-ltb}
 use Rattle.format.specs.Steps.{read-number, read-bind, read-refuse, read-done}
 use borrow.Author.Needs.{needs}
-use Rattle.ohdr_storage.proofs.layout_contiguous.Statement.{statement}
-use Rattle.ohdr_storage.proofs.layout_contiguous.Tie as tie
+use Rattle.ohdr_layout.proofs.layout_contiguous.Statement.{statement}
+use Rattle.ohdr_layout.proofs.layout_contiguous.Tie as tie
 
 address-requires : tie.Need-address-requires
 address-requires c κs = search needs

@@ -1,0 +1,3 @@
+pub mod DataLayouts
+pub mod Answers
+pub mod Facts
