@@ -57,6 +57,9 @@ pub struct Row {
     pub name: Option<Vec<u8>>,
     /// An attribute's value, or a layout's data.
     pub part: Option<Vec<u8>>,
+    /// Where the part begins, 0 without one. Absent in the Rust, which does not tell, and so in no
+    /// report.
+    pub part_position: Option<u64>,
     /// Absent in the Rust, which knows none, and so in no report.
     pub number: Option<Number>,
 }
@@ -88,6 +91,54 @@ pub struct Dimensions {
     pub sizes: [u64; 4],
 }
 
+impl Dimensions {
+    /// The exact product, 1 without sizes: four of at most 1,000,000 stay far below 2^128.
+    pub fn product(&self) -> u128 {
+        let sizes = self.sizes.iter().take(self.count as usize);
+        sizes.copied().map(u128::from).product()
+    }
+}
+
+/// The number of elements: 0 and the number, or 1 and 0 where there are 2^64 or more.
+#[repr(C)]
+#[derive(Clone, Copy, Debug, PartialEq, Eq)]
+pub struct Elements {
+    pub too_many: u64,
+    pub number: u64,
+}
+
+/// The kind of a null dataspace.
+pub const NULL: u8 = 2;
+
+impl Elements {
+    pub const TOO_MANY: Elements = Elements {
+        too_many: 1,
+        number: 0,
+    };
+
+    /// Of a kind and sizes: their product, and none in a null dataspace, whatever its sizes.
+    pub fn of(kind: Option<u8>, sizes: &Dimensions) -> Elements {
+        match kind {
+            Some(NULL) => Elements::exactly(0),
+            _ => Elements::exactly(sizes.product()),
+        }
+    }
+
+    pub fn exactly(elements: u128) -> Elements {
+        u64::try_from(elements).map_or(Elements::TOO_MANY, |number| Elements {
+            too_many: 0,
+            number,
+        })
+    }
+}
+
+/// A record without a message has no sizes, and so one element.
+impl Default for Elements {
+    fn default() -> Elements {
+        Elements::of(None, &Dimensions::default())
+    }
+}
+
 #[repr(C)]
 #[derive(Clone, Debug, Default, PartialEq, Eq)]
 pub struct DataSpace {
@@ -96,6 +147,7 @@ pub struct DataSpace {
     pub kind: Optional,
     pub sizes: Dimensions,
     pub maxima: Dimensions,
+    pub elements: Elements,
 }
 
 /// The kinds of a format; 0 is none.

@@ -21,6 +21,7 @@ pub mod real;
 pub mod rust;
 pub mod scan;
 pub mod sum;
+pub mod text;
 
 /// The crates, the sources and the archive that this program was built of.
 pub const VERSIONS: &str = include_str!("versions.txt");

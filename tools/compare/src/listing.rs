@@ -4,14 +4,11 @@
 use std::io::Write;
 
 use crate::pair::{LISTED_ROWS, TABLE_TOO_SMALL};
-use crate::port::{ROW_WORDS, Written};
+use crate::port::{NAME, PART, ROW_WORDS, Written};
 
 /// The bytes of the largest file that is listed.
 const LARGEST_FILE: usize = 65_536;
 const FILE_SIZE: u64 = 2;
-/// The words of a row in which something is absent, and the position and length behind each.
-const NAME: usize = 4;
-pub const PART: usize = 7;
 
 /// The listing of a file whose root was written with enough rows. Whatever is wrong with it has its
 /// number, and only a header that is right is refused for its rows.

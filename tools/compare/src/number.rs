@@ -2,7 +2,8 @@
 //! standard's tables of fixed-point and floating-point types, and by nothing of the port.
 //!
 //! A row has a number where it is an attribute of class 0 or 1 with exactly one element, and one of
-//! the forms below. Every other row has none, and both of its words are 0.
+//! the forms below. Every other row has none, and both of its words are 0. A null dataspace has no
+//! element, also where its sizes are 1 or there are none.
 
 use crate::input::{Input, get};
 use crate::scan::{self, ATTRIBUTE, Type};
@@ -20,8 +21,8 @@ pub const SIGNED: u64 = 2;
 pub const SINGLE: u64 = 3;
 pub const DOUBLE: u64 = 4;
 
-const FIXED_POINT: u64 = 0;
-const FLOATING_POINT: u64 = 1;
+pub const FIXED_POINT: u64 = 0;
+pub const FLOATING_POINT: u64 = 1;
 /// The most significant bit of the mantissa is not stored.
 const IMPLIED: u64 = 2;
 
@@ -47,6 +48,8 @@ pub enum Why {
     /// Its type or its space has no reading.
     Unread,
     OtherClass,
+    /// Of class 0 or 1, in a null dataspace.
+    Null,
     /// All rules hold but this one.
     But(Rule),
     /// More than one rule does not hold.
@@ -97,7 +100,10 @@ pub fn read(input: &Input, kind: u64, body: u64) -> Reading {
         FLOATING_POINT => rules_of_float(data_type),
         _ => return Reading::None(Why::OtherClass),
     };
-    let one = (Rule::Elements, attribute.elements == 1);
+    if attribute.space.is_null {
+        return Reading::None(Why::Null);
+    }
+    let one = (Rule::Elements, attribute.space.elements == 1);
     let mut broken = rules.iter().chain([&one]).filter(|(_, holds)| !holds);
     match (broken.next(), broken.next()) {
         (Some((rule, _)), None) => Reading::None(Why::But(*rule)),

@@ -1,6 +1,8 @@
 //! The port behind two functions, one for a header by hand and one for a plain file, through the
 //! archive that dowringaf.h describes.
 
+use std::mem::offset_of;
+
 use crate::address::Address;
 use crate::answer::{Header, Records, Row, SuperBlock, words};
 use crate::input::Input;
@@ -8,6 +10,10 @@ use crate::number::Number;
 use crate::pair::{ALL_ROWS, Figures, Filling, Pair, Sizes, TABLE_TOO_SMALL};
 
 pub const ROW_WORDS: usize = 12;
+/// The words of a row that tell whether there is a name and a part, each before its position and
+/// length.
+pub const NAME: usize = 4;
+pub const PART: usize = 7;
 /// The first of a row's two words that are of its number.
 pub const NUMBER: usize = 10;
 /// Rows that are lent first: enough for most headers, and cleared quickly. Where they were too few,
@@ -15,6 +21,10 @@ pub const NUMBER: usize = 10;
 const FEW_ROWS: usize = 64;
 /// The bytes that the listing is lent.
 const LISTING: usize = 98_304;
+/// The words of an object; the numbers of its last one, and of the dataspace's elements.
+const OBJECT_WORDS: usize = 65;
+const DATA_LENGTH: usize = 64;
+const ELEMENTS: usize = 19;
 
 /// The words of dowringaf.h.
 #[repr(C)]
@@ -25,6 +35,13 @@ pub struct Object {
     pub data_position: u64,
     pub data_length: u64,
 }
+
+// The words stand where dowringaf.h has them, or the tool is not built.
+const _: () = {
+    assert!(size_of::<Object>() == 8 * OBJECT_WORDS);
+    assert!(offset_of!(Object, data_length) == 8 * DATA_LENGTH);
+    assert!(offset_of!(Object, records.data_space.elements.number) == 8 * ELEMENTS);
+};
 
 /// The words of dowringaf.h.
 #[repr(C)]
@@ -97,7 +114,7 @@ pub struct PlainAnswer {
     /// What the root operation wrote.
     pub root: Written,
     /// What it has to write: what the call by hand with the superblock's values wrote, or, where
-    /// that is refused, its number and zeros.
+    /// that is refused, what a refused header leaves.
     pub by_hand: Written,
     /// The root's check, beside the root operation with other tables.
     pub pair: Pair,
@@ -202,12 +219,11 @@ impl Port {
         })
     }
 
-    /// What was just answered with so many rows lent. The table's words after the last row must be
-    /// zero, and where it refuses all words of the object but the first.
+    /// What was just answered with so many rows lent.
     fn filling(&self, lent: usize) -> Filling {
         let rows = self.object.figures.rows as usize * ROW_WORDS;
         let table = &self.table[..lent * ROW_WORDS];
-        assert_zeros(&self.object, table);
+        assert_unused(&self.object, table);
         let (object, first) = &self.first;
         Filling {
             lent,
@@ -333,20 +349,22 @@ fn super_block(file: &[u8]) -> Result<SuperBlock, u64> {
     Err(block.refused)
 }
 
-/// The table's words after the last row must be zero, and where it refuses all words of the object
-/// but the first.
-fn assert_zeros(object: &Object, table: &[u64]) {
+/// The table's words after the last row must be zero. A refused object must have its number, one
+/// element for the dataspace that it lacks, and zeros.
+fn assert_unused(object: &Object, table: &[u64]) {
     let unused = &table[object.figures.rows as usize * ROW_WORDS..];
     assert!(unused.iter().all(|word| *word == 0), "unused rows are zero");
     if object.figures.refused != 0 {
-        let refused = Written::refused(object.figures.refused, 0).object;
-        assert_eq!(*object, refused, "a refused object is zero");
+        let mut refused = [0; OBJECT_WORDS];
+        refused[0] = object.figures.refused;
+        refused[ELEMENTS] = 1;
+        assert_eq!(object.words(), refused, "the words of a refused object");
     }
 }
 
 /// What was written, in the one form of both sides.
 fn outcome(object: &Object, table: &[u64], file: &[u8]) -> Outcome {
-    assert_zeros(object, table);
+    assert_unused(object, table);
     match object.figures.refused {
         0 => Outcome::Read(Box::new(object.header(file, table))),
         number => Outcome::Refused(number),
@@ -354,7 +372,7 @@ fn outcome(object: &Object, table: &[u64], file: &[u8]) -> Outcome {
 }
 
 impl Written {
-    /// A refusal: its number and zeros.
+    /// A refusal: its number, records without a message, and zeros.
     fn refused(number: u64, words: usize) -> Written {
         Written {
             object: Object {
@@ -395,8 +413,9 @@ fn row(file: &[u8], words: &[u64]) -> Row {
         flags: words[1],
         size: words[2],
         body: words[3],
-        name: part(4),
-        part: part(7),
+        name: part(NAME),
+        part: part(PART),
+        part_position: Some(words[PART + 1]),
         number: Some(Number {
             case: words[NUMBER],
             bits: words[NUMBER + 1],

@@ -1,10 +1,10 @@
-//! What the bytes of messages show and no answer does: attributes that stand outside the comparison,
-//! and the forms that the mended Rust reads otherwise than the published one.
+//! What the bytes of messages show and no answer does: what stands outside the comparison, and the
+//! forms that the mended Rust reads otherwise than the published one.
 //!
-//! Outside are a type of more than 32 levels, and size times elements of 2^64 or more. The forms are
-//! members of version 1 compounds, and version 1 names above 8 bytes that are no multiple of 8; and
-//! where end-of-file is above all ones of the width of offsets, undefined data addresses and
-//! continuation offsets.
+//! Outside are null dataspaces, and in attributes a type of more than 32 levels, and size times
+//! elements of 2^64 or more. The forms are members of version 1 compounds, and version 1 names above 8
+//! bytes that are no multiple of 8; null dataspaces in attributes; and where end-of-file is above all
+//! ones of the width of offsets, undefined data addresses and continuation offsets.
 //!
 //! Every field that the mended Rust tests before that is tested here too, so that a header which is
 //! refused or an attribute that fails before it gets so far stays in the comparison, with both.
@@ -12,9 +12,11 @@
 use std::fmt;
 
 use crate::address::{self, Seen};
+use crate::answer::NULL;
 use crate::input::{Input, get, padding};
 use crate::rust::Entry;
 
+pub const DATA_SPACE: u8 = 1;
 const DATA_TYPE: u8 = 3;
 pub const ATTRIBUTE: u8 = 12;
 const LEVELS: u32 = 32;
@@ -27,6 +29,14 @@ const LARGEST_SIZE: u64 = 1_000_000;
 pub enum Outside {
     TypeLevel,
     Elements,
+}
+
+/// Where a null dataspace stands.
+#[derive(Clone, Copy, Debug, PartialEq, Eq, PartialOrd, Ord)]
+pub enum Null {
+    /// In dataspace messages, and in no attribute.
+    Message,
+    Attribute,
 }
 
 /// What a compound stands in; lists between the two are passed over.
@@ -65,13 +75,19 @@ pub struct Type<'a> {
     pub properties: &'a [u8],
 }
 
+/// A dataspace: how many sizes it has, and its elements, which are none where it is null.
+#[derive(Clone, Copy, Debug)]
+pub struct Space {
+    pub sizes: u64,
+    pub elements: u128,
+    pub is_null: bool,
+}
+
 /// What an attribute has behind its name.
 #[derive(Clone, Copy, Debug)]
 pub struct Attribute<'a> {
     pub data_type: Type<'a>,
-    /// How many sizes there are, and their product.
-    pub sizes: u64,
-    pub elements: u128,
+    pub space: Space,
     /// Where the value begins.
     pub value: usize,
 }
@@ -81,6 +97,8 @@ pub struct Attribute<'a> {
 pub struct Found {
     /// Of its attributes.
     pub outside: Option<Outside>,
+    /// Whether the kind of a null dataspace is read, and where; its sizes may be refused.
+    pub null: Option<Null>,
     /// Whether a datatype message has more levels than are allowed.
     pub type_too_deep: bool,
     /// Of messages that are read to their end.
@@ -94,10 +112,28 @@ pub struct Found {
 }
 
 impl Found {
+    /// Takes what a message shows, an attribute or another, that is read to its end or not.
+    fn take(&mut self, is_attribute: bool, is_read: bool, scan: Scan) {
+        match is_read {
+            true => self.forms.extend(scan.forms),
+            false => self.failed.extend(scan.forms),
+        }
+        let place = match is_attribute {
+            true => Null::Attribute,
+            false => Null::Message,
+        };
+        self.null = self.null.max(scan.meets_null.then_some(place));
+        match is_attribute {
+            true => self.outside = self.outside.or(scan.outside),
+            false => self.type_too_deep |= scan.outside.is_some(),
+        }
+    }
+
     /// Whether there is a form that the published Rust reads otherwise than the mended one.
     pub fn is_mended(&self) -> bool {
         let mut forms = self.forms.iter().chain(&self.failed);
-        self.is_followed || forms.any(Form::is_mended)
+        let is_null = self.null == Some(Null::Attribute);
+        self.is_followed || is_null || forms.any(Form::is_mended)
     }
 }
 
@@ -141,21 +177,19 @@ pub fn header(input: &Input, entries: &[Entry]) -> Found {
         let mut scan = Scan::new(input, entry.body);
         // A field that cannot be read ends the message, here as in its readers.
         let end = match entry.kind {
+            DATA_SPACE => scan.data_space().map(drop),
             DATA_TYPE => scan.data_type(1).map(drop),
             ATTRIBUTE => scan.attribute().map(drop),
             _ => continue,
         };
-        match end {
-            Some(()) => found.forms.extend(scan.forms),
-            None => found.failed.extend(scan.forms),
-        }
-        if entry.kind == ATTRIBUTE {
-            found.outside = found.outside.or(scan.outside);
-        } else {
-            found.type_too_deep |= scan.outside.is_some();
-        }
+        found.take(entry.kind == ATTRIBUTE, end.is_some(), scan);
     }
     found
+}
+
+/// The dataspace that stands at a place, or nothing where it has no reading.
+pub fn data_space(input: &Input, body: usize) -> Option<Space> {
+    Scan::new(input, body).data_space()
 }
 
 /// The attribute whose body stands at a place, or nothing where its type or its space has no reading.
@@ -169,6 +203,8 @@ struct Scan<'a> {
     /// What the next type stands in.
     holder: Holder,
     outside: Option<Outside>,
+    /// Whether the kind of a null dataspace was read.
+    meets_null: bool,
     forms: Vec<Form>,
 }
 
@@ -179,6 +215,7 @@ impl<'a> Scan<'a> {
             at: body,
             holder: Holder::Message,
             outside: None,
+            meets_null: false,
             forms: Vec::new(),
         }
     }
@@ -207,14 +244,13 @@ impl<'a> Scan<'a> {
         }
         self.holder = Holder::Attribute(version);
         let data_type = self.padded(version, |scan| scan.data_type(1))?;
-        let (sizes, elements) = self.padded(version, Scan::elements)?;
-        if u128::from(data_type.size) * elements >= 1 << 64 {
+        let space = self.padded(version, Scan::data_space)?;
+        if u128::from(data_type.size) * space.elements >= 1 << 64 {
             self.outside.get_or_insert(Outside::Elements);
         }
         Some(Attribute {
             data_type,
-            sizes,
-            elements,
+            space,
             value: self.at,
         })
     }
@@ -317,23 +353,29 @@ impl<'a> Scan<'a> {
         Some(length + 1)
     }
 
-    /// How many sizes a dataspace has, and their product.
-    fn elements(&mut self) -> Option<(u64, u128)> {
+    /// A dataspace. In version 1 no byte is a kind.
+    fn data_space(&mut self) -> Option<Space> {
         let version = self.number(1)?;
         let count = self.number(1)?;
         let flags = self.number(1)?;
-        self.take(if version == 1 { 5 } else { 1 })?;
+        let between = self.take(if version == 1 { 5 } else { 1 })?;
         if !(1..=2).contains(&version) || count > 4 || (version == 1 && flags & 2 != 0) {
             return None;
         }
-        let mut elements = 1;
+        let is_null = version == 2 && between == [NULL];
+        self.meets_null |= is_null;
+        let mut product = 1;
         for _ in 0..count {
-            elements *= u128::from(self.size(false)?);
+            product *= u128::from(self.size(false)?);
         }
         if flags & 1 != 0 {
             (0..count).try_for_each(|_| self.size(true).map(drop))?;
         }
-        Some((count, elements))
+        Some(Space {
+            sizes: count,
+            elements: if is_null { 0 } else { product },
+            is_null,
+        })
     }
 
     fn size(&mut self, maximum: bool) -> Option<u64> {

@@ -51,7 +51,7 @@ impl Maker<'_> {
 
     /// The rest of an attribute. What fails here leaves it without a value.
     fn type_space_value(&mut self, piece: &mut Piece, version: u64) {
-        if self.numeric && self.random.rarely(NUMERIC) {
+        if (self.numeric && self.random.rarely(NUMERIC)) || self.has_number() {
             return self.one_number(piece, version);
         }
         if self.random.rarely(5) {
@@ -97,7 +97,10 @@ impl Maker<'_> {
         }
     }
 
-    pub fn elements(&self, data_space: &Piece, count: u64) -> u128 {
+    pub fn elements(&mut self, data_space: &Piece, count: u64) -> u128 {
+        if self.is_null(&data_space.bytes) {
+            return 0;
+        }
         let width = usize::from(self.length_width);
         let start = if data_space.bytes[0] == 1 { 8 } else { 4 };
         let sizes = data_space.bytes[start..].chunks_exact(width);

@@ -14,6 +14,8 @@ pub struct Maker<'r> {
     pub early: bool,
     /// Whether most messages are attributes of one number, or almost.
     pub numeric: bool,
+    /// Whether most messages have a dataspace; and how often one is null, in thousandths.
+    pub spaces: Option<u64>,
     /// The smallest messages that a header has beside the others.
     pub crowd: u64,
     /// Faults that may still be made, and how often, in thousandths of the chances.
@@ -55,6 +57,7 @@ impl<'r> Maker<'r> {
             front: 0,
             early: false,
             numeric: false,
+            spaces: None,
             crowd: 0,
             faults,
             rate,
@@ -70,6 +73,16 @@ impl<'r> Maker<'r> {
     pub fn numeric(self) -> Maker<'r> {
         Maker {
             numeric: true,
+            ..self
+        }
+    }
+
+    /// The same maker, of dataspaces. Half of the headers have none that is null on purpose, and so
+    /// stay in the comparison.
+    pub fn of_spaces(self) -> Maker<'r> {
+        let rate = self.random.pick(&[0, 0, 200, 600]);
+        Maker {
+            spaces: Some(rate),
             ..self
         }
     }

@@ -3,7 +3,7 @@
 use super::maker::{Maker, UNDEFINED_RATE};
 use super::piece::{Piece, Place};
 use crate::address::all_ones;
-use crate::scan::ATTRIBUTE;
+use crate::scan::{ATTRIBUTE, DATA_SPACE};
 
 /// How often a message of a numeric header is an attribute for that alone, in thousandths.
 const NUMERIC: u64 = 700;
@@ -18,6 +18,9 @@ impl Maker<'_> {
         const UNKNOWN: &[u64] = &[6, 7, 9, 13, 14, 15, 17, 18, 19, 20, 22, 23, 255];
         if self.numeric && self.random.rarely(NUMERIC) {
             return ATTRIBUTE.into();
+        }
+        if self.has_space() {
+            return self.random.pick(&[DATA_SPACE, ATTRIBUTE, ATTRIBUTE]).into();
         }
         if self.random.rarely(50) {
             return self.random.pick(UNKNOWN);

@@ -3,6 +3,7 @@
 mod attribute;
 pub mod crowded;
 mod damage;
+mod further;
 mod header;
 pub mod large;
 mod maker;
@@ -10,6 +11,7 @@ mod messages;
 pub mod numeric;
 mod piece;
 pub mod plain;
+pub mod spaces;
 mod sums;
 mod types;
 

@@ -2,24 +2,17 @@
 //! and of forms that are almost a number's.
 
 use super::attribute::WRITTEN;
-use super::damage;
+use super::further::Further;
 use super::maker::Maker;
 use super::piece::Piece;
-use super::plain::sound;
-use super::sums::Sums;
 use super::types::{DOUBLE, SINGLE};
-use crate::closing::make_true;
 use crate::input::{Input, put};
-use crate::random::Random;
 
-/// How many go with a batch of inputs, and with one of plain files.
-const INPUTS: usize = 100;
-const FILES: usize = 40;
-/// Damaged copies of one input at most.
-const COPIES: usize = 50;
-/// So that they have other random numbers than all others.
-const FIRST_BATCH: u64 = 1 << 42;
-const FIRST_PLAIN_BATCH: u64 = 1 << 43;
+const NUMERIC: Further = Further {
+    first_batch: 1 << 42,
+    first_plain_batch: 1 << 43,
+    made: |maker| maker.numeric(),
+};
 /// How often a field of a number is another than it needs, in thousandths.
 const ODD: u64 = 70;
 /// How often a value is cut, so that it goes on in what stands behind it, in thousandths.
@@ -30,39 +23,14 @@ const WRAPPED: [u64; 4] = [469_411, 335_647, 647_939, 10_119];
 /// The bits that are ignored in the class bits of a float.
 const IGNORED: u64 = 0xff_008e;
 
-/// Shows the numeric inputs that go with a batch: as they are made, and in every other batch good ones
-/// that are damaged.
+/// Shows the numeric inputs that go with a batch.
 pub fn batch(seed: u64, number: u64, show: &mut dyn FnMut(&Input)) {
-    let number = FIRST_BATCH + number;
-    let mut random = Random::new(seed, number);
-    let of_good = number % 2 == 1;
-    let mut sums = Sums::new(seed, number, of_good);
-    let mut show = |input: &Input| show(&sums.done(input.clone()));
-    match of_good {
-        true => damaged(&mut random, &mut show),
-        false => (0..INPUTS).for_each(|_| show(&Maker::new(&mut random).numeric().input())),
-    }
-}
-
-fn damaged(random: &mut Random, show: &mut dyn FnMut(&Input)) {
-    let mut left = INPUTS;
-    while left > 0 {
-        let mut input = Maker::good(random).numeric().input();
-        make_true(&mut input);
-        let range = 0..input.file.len();
-        left -= damage::every_byte_of(&input, range, left.min(COPIES), random, show);
-    }
+    NUMERIC.batch(seed, number, show);
 }
 
 /// Shows the numeric files that go with a batch.
 pub fn plain_batch(seed: u64, number: u64, show: &mut dyn FnMut(&[u8])) {
-    let number = FIRST_PLAIN_BATCH + number;
-    let mut random = Random::new(seed, number);
-    let mut sums = Sums::new(seed, number, false);
-    for _ in 0..FILES {
-        let file = sound(&mut Maker::new(&mut random).numeric());
-        show(&sums.done(file));
-    }
+    NUMERIC.plain_batch(seed, number, show);
 }
 
 impl Maker<'_> {

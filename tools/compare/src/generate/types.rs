@@ -164,7 +164,10 @@ impl Maker<'_> {
     }
 
     pub fn data_space_of(&mut self, count: u64) -> Piece {
-        self.data_space_with(count, Maker::size)
+        match count == 4 && self.is_near() {
+            true => self.data_space_with(count, Maker::near_size),
+            false => self.data_space_with(count, Maker::size),
+        }
     }
 
     /// A dataspace of so many sizes, each of which `size` makes.
@@ -181,7 +184,8 @@ impl Maker<'_> {
         piece.put(version, 1);
         piece.put(count, 1);
         piece.put(flags, 1);
-        let between = self.bytes(if version == 1 { 5 } else { 1 });
+        let mut between = self.bytes(if version == 1 { 5 } else { 1 });
+        self.set_kind(version, &mut between);
         piece.bytes.extend(between);
         let count = count.min(8);
         for _ in 0..count {

@@ -11,7 +11,7 @@ use super::hdf::ohdr_message::{HeaderMessage, HeaderMessageKind, collect_all_mes
 use super::hdf::parser::{Input as Stream, State, parse};
 use super::hdf::super_block::{SuperBlock, super_block};
 use crate::address::{self, Address};
-use crate::answer::{self, Dimensions, Format, Header, Records, Row};
+use crate::answer::{self, Dimensions, Elements, Format, Header, Records, Row};
 use crate::input::Input;
 use crate::rust::{Answer, CONTINUATION, Entry, answer_of, silence};
 
@@ -162,6 +162,7 @@ fn row((message, entry): (&HeaderMessage, &Entry)) -> Row {
         body: entry.body as u64,
         name,
         part,
+        part_position: None,
         number: None,
     }
 }
@@ -175,12 +176,15 @@ fn dimensions(list: &[u64]) -> Dimensions {
     }
 }
 
+/// The record, with the number of its elements, which the Rust does not keep.
 fn data_space(ds: &data_object::DataSpace) -> answer::DataSpace {
+    let sizes = dimensions(&ds.dimension_size);
     answer::DataSpace {
         dimensionality: ds.dimensionality.into(),
         flags: ds.flags.into(),
         kind: ds.kind.into(),
-        sizes: dimensions(&ds.dimension_size),
+        elements: Elements::of(ds.kind, &sizes),
+        sizes,
         maxima: dimensions(&ds.dimension_max_size),
     }
 }

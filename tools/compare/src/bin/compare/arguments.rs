@@ -27,7 +27,8 @@ pub struct Arguments {
     pub threads: usize,
     /// Disagreements that are shrunk and printed at most.
     pub shown: usize,
-    /// Inputs among which those to store are chosen.
+    /// Inputs among which those to store are chosen, beside the headers of dataspaces that go with
+    /// them.
     pub candidates: u64,
     pub breakage: Option<&'static Breakage>,
     /// Real files, or directories of them.

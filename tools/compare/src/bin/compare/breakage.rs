@@ -9,6 +9,8 @@ use sides::port::{Outcome, PlainAnswer};
 use sides::rust::{self, published};
 
 use crate::address_breakage::ADDRESSES;
+use crate::elements_breakage::ELEMENTS;
+use crate::null_breakage::NULLS;
 use crate::number_breakage::NUMBERS;
 use crate::pair_breakage::PAIRS;
 use crate::plain_address_breakage::PLAIN_ADDRESSES;
@@ -106,7 +108,8 @@ const HEADER: &[Breakage] = &[
 /// All that are of headers.
 pub fn of_headers() -> impl Iterator<Item = &'static Breakage> {
     let headers = HEADER.iter().chain(SUMS).chain(ADDRESSES);
-    headers.chain(NUMBERS).chain(PAIRS)
+    let spaces = ELEMENTS.iter().chain(NULLS);
+    headers.chain(NUMBERS).chain(spaces).chain(PAIRS)
 }
 
 /// All that are of plain files.

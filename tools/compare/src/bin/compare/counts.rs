@@ -8,9 +8,13 @@ use sides::input::End;
 use sides::scan::Form;
 use sides::sum::{Closing, Of};
 
+use crate::elements::Elements;
 use crate::judge::{Exclusion, FalseSum, Judged, OF_CONTINUATION, Untested, Verdict};
 use crate::numbers::Numbers;
+use crate::outside::Outside;
+use crate::rows::Rows;
 use crate::tables::Tables;
+use crate::texts::Texts;
 
 /// The message types with fields, by name; the rest are skipped by their size.
 const TYPES: &[(u64, &str)] = &[
@@ -120,7 +124,7 @@ pub struct Counts {
     /// Stored values that are sums, in headers that are accepted or refused.
     sums: u64,
     false_sums: BTreeMap<FalseSum, u64>,
-    outside: BTreeMap<Exclusion, u64>,
+    pub outside: Outside,
     /// Headers with an end-of-file address that leaves them outside, and an undefined address that
     /// the published Rust takes for a place in the file; and those of them that it answers otherwise.
     followed: u64,
@@ -136,6 +140,8 @@ pub struct Counts {
     pub beside: Beside,
     pub tables: Tables,
     numbers: Numbers,
+    texts: Texts,
+    elements: Elements,
     /// What accepted headers hold.
     types: BTreeMap<u64, u64>,
     forms: BTreeMap<String, u64>,
@@ -164,7 +170,7 @@ impl Counts {
         }
         if !matches!(judged.verdict, Verdict::Panicked(_) | Verdict::Differs(_)) {
             self.tables.count(&judged.pair);
-            self.numbers.count(&judged.numbers);
+            self.count_rows(judged.rows.as_ref());
         }
         match &judged.verdict {
             Verdict::Accepted(header) => {
@@ -182,6 +188,14 @@ impl Counts {
         }
     }
 
+    fn count_rows(&mut self, rows: Option<&Rows>) {
+        if let Some(rows) = rows {
+            self.numbers.count(&rows.numbers);
+            self.texts.count(&rows.texts);
+            self.elements.count(rows.space);
+        }
+    }
+
     fn count_refused(&mut self, number: u64, judged: &Judged) {
         count(&mut self.refused, number);
         if judged.demanded.is_some() {
@@ -193,7 +207,7 @@ impl Counts {
     }
 
     fn count_outside(&mut self, why: Exclusion, judged: &Judged) {
-        count(&mut self.outside, why);
+        self.outside.count(why);
         if why == Exclusion::EndOfFile && judged.found.is_followed {
             self.followed += 1;
             self.followed_otherwise += u64::from(judged.otherwise.is_some());
@@ -235,11 +249,7 @@ impl Counts {
         for (sum, count) in &self.false_sums {
             println!("  {}: {count}", sum.text());
         }
-        let outside: u64 = self.outside.values().sum();
-        println!("{name}outside the comparison {outside}");
-        for (why, count) in &self.outside {
-            println!("  {}: {count}", why.text());
-        }
+        self.outside.print(name);
         if self.followed > 0 {
             println!(
                 "{name}with an undefined address below such an end-of-file address {}, {} of them answered otherwise by the published Rust",
@@ -249,6 +259,8 @@ impl Counts {
         self.beside.print(name);
         self.tables.print(name);
         self.numbers.print(name);
+        self.texts.print(name);
+        self.elements.print(name);
     }
 
     /// Prints the undefined addresses of headers that have a name.
@@ -282,7 +294,7 @@ impl Sum for Counts {
         self.sums += other.sums;
         add_all(&mut self.refused, other.refused);
         add_all(&mut self.false_sums, other.false_sums);
-        add_all(&mut self.outside, other.outside);
+        self.outside.add(other.outside);
         self.followed += other.followed;
         self.followed_otherwise += other.followed_otherwise;
         add_all(&mut self.demanded, other.demanded);
@@ -294,6 +306,8 @@ impl Sum for Counts {
         self.beside.add(other.beside);
         self.tables.add(other.tables);
         self.numbers.add(other.numbers);
+        self.texts.add(other.texts);
+        self.elements.add(other.elements);
     }
 }
 
@@ -383,18 +397,5 @@ impl FalseSum {
             Untested::TooMany => "reads a 4,097th entry",
         };
         format!("{of}, where the mended Rust {rust}")
-    }
-}
-
-impl Exclusion {
-    pub fn text(self) -> String {
-        match self {
-            Exclusion::Number(number) => format!("the port answers {number}"),
-            Exclusion::TypeLevel => "a type level above 32 in an attribute".into(),
-            Exclusion::Elements => "size x elements of 2^64 or more in an attribute".into(),
-            Exclusion::EndOfFile => {
-                "an end-of-file address above all ones of the width of offsets".into()
-            }
-        }
     }
 }

@@ -1,20 +1,21 @@
 //! What an input shows: labels by which the stored inputs are chosen and named.
 
 use sides::address::{Address, LAYOUT, Place, Seen, all_ones};
-use sides::answer::{Header, Row};
+use sides::answer::{DataSpace, Elements, Header, Row};
 use sides::input::{Input, get, padding};
 use sides::rust::Entry;
-use sides::scan::Form;
+use sides::scan::{DATA_SPACE, Form};
 use sides::sum::{Closing, STEP};
 
 use crate::counts::{is_covered, is_overrun};
 
-/// The groups of padded forms, of sums, and of undefined addresses.
+/// The groups of padded forms, of sums, of undefined addresses, and of elements.
 const MEMBER_1: &str = "version-1-member";
 const MEMBER_3: &str = "version-3-member";
 const NAME_1: &str = "version-1-name";
 const SUM: &str = "sum";
 const ADDRESS: &str = "undefined-address";
+const ELEMENTS: &str = "elements";
 
 /// A group, which names the stored input, and what is shown in it.
 #[derive(Clone, Debug, PartialEq, Eq, PartialOrd, Ord, Hash)]
@@ -24,9 +25,9 @@ pub struct Feature {
 }
 
 impl Feature {
-    /// Whether a padded form, a sum or an undefined address is what is shown.
+    /// Whether a padded form, a sum, an undefined address or the elements are what is shown.
     pub fn is_first(&self) -> bool {
-        [MEMBER_1, MEMBER_3, NAME_1, SUM, ADDRESS].contains(&self.group.as_str())
+        [MEMBER_1, MEMBER_3, NAME_1, SUM, ADDRESS, ELEMENTS].contains(&self.group.as_str())
     }
 }
 
@@ -258,6 +259,39 @@ pub fn of_addresses(input: &Input, header: &Header, addresses: &[Seen]) -> Vec<F
     details.push(format!("layout {lies}, {}", end_of_file(input)));
     details.push(format!("layout {lies}, {}", widths(input)));
     named(details)
+}
+
+/// What the elements of the record show, by how many they are: the sizes and maximum sizes, the kind,
+/// and how many dataspaces there are in the header.
+pub fn of_elements(header: &Header) -> Vec<Feature> {
+    let space = &header.records.data_space;
+    let elements = number_of(space);
+    let (sizes, maxima) = (space.sizes.count, space.maxima.count);
+    let kind = match space.kind.present {
+        0 => "none".into(),
+        _ => few(space.kind.value as u8).to_string(),
+    };
+    let rows = header.rows.iter();
+    let spaces = rows.filter(|row| row.kind == u64::from(DATA_SPACE));
+    let details = [
+        format!("{elements} of {sizes} sizes, {maxima} maxima"),
+        format!("{elements} of kind {kind}"),
+        format!("{elements}, the last of {}", spaces.count().min(4)),
+    ];
+    details.map(|detail| feature(ELEMENTS, detail)).into()
+}
+
+/// Numbers of elements that are told apart.
+fn number_of(space: &DataSpace) -> &'static str {
+    match space.elements {
+        Elements::TOO_MANY if space.sizes.product() == 1 << 64 => "2^64",
+        Elements::TOO_MANY => "more than 2^64",
+        Elements { number: 0, .. } => "0",
+        Elements { number: 1, .. } => "1",
+        Elements { number, .. } if number >> 63 > 0 => "2^63 and more",
+        Elements { number, .. } if number >> 32 > 0 => "2^32 and more",
+        _ => "2 and more",
+    }
 }
 
 /// What the undefined address shows that refuses an input, or is in front of a size that does: by its

@@ -11,23 +11,27 @@
 //! What is said of the port holds for its check and for its filling, each beside the Rust. Between the
 //! two the property of `Pair` must hold on every input, inside the comparison or not.
 //!
-//! No Rust knows the numbers of rows: on every input that the port accepts, inside the comparison or
-//! not, they must be what the tool reads from the bytes of the rows.
+//! Null dataspaces stand outside too: in an attribute the published Rust takes as many bytes as their
+//! sizes say. The mended one takes none, and there too the port must answer as it does.
+//!
+//! No Rust knows the numbers of rows, tells where a text stands, or keeps the number of elements: on
+//! every input that the port accepts, inside the comparison or not, they must be what the tool reads
+//! from the bytes of the rows.
 
 use std::ops::RangeInclusive;
 
 use sides::address::{LAYOUT, Place, all_ones, numbers};
-use sides::answer::{Header, REFUSED, Row};
+use sides::answer::{Header, REFUSED};
 use sides::closing::{first_false, reached};
 use sides::input::{End, Input, get};
-use sides::number::{self, Number, Reading};
 use sides::pair::{Figures, Pair, Sizes};
 use sides::port::{self, PlainAnswer, Port};
 use sides::rust::{self, CONTINUATION, ENTRIES, Entry, mended, published};
-use sides::scan::{self, Found, Outside};
+use sides::scan::{self, Found, Null, Outside};
 use sides::sum::{Closing, Of};
 
 use crate::breakage::Breakage;
+use crate::rows::Rows;
 
 /// The port's number for a false sum.
 pub const CHECKSUM: u64 = 28;
@@ -46,6 +50,8 @@ pub enum Exclusion {
     Elements,
     /// End-of-file is above all ones of the width of offsets.
     EndOfFile,
+    /// A null dataspace is read, and whether the port accepts the header.
+    Null(Null, bool),
 }
 
 /// A false sum: what it closes, and what the mended Rust, which does not test it, says of the input.
@@ -82,8 +88,8 @@ pub struct Judged {
     /// The closings that were reached, in their order.
     pub closings: Vec<Closing>,
     pub found: Found,
-    /// What the bytes of the port's rows say of their numbers.
-    pub numbers: Vec<Reading>,
+    /// What the bytes of the port's rows say, where it accepts.
+    pub rows: Option<Rows>,
     /// The number that an undefined address asks for.
     pub demanded: Option<u64>,
     pub end: Option<End>,
@@ -159,7 +165,7 @@ fn unasked(port: &port::Outcome, pair: Pair) -> Judged {
         pair,
         closings: Vec::new(),
         found: Found::default(),
-        numbers: Vec::new(),
+        rows: None,
         demanded: None,
         end: None,
         otherwise: None,
@@ -174,7 +180,7 @@ pub fn against_rust(input: &Input, port: port::Outcome, pair: Pair) -> Judged {
     let last = mended.entries.last().filter(|_| refuses);
     let answers = Answers {
         input,
-        numbers: readings(input, &port),
+        rows: Rows::read(input, &port),
         port,
         pair,
         published: published::rust_answer(input).outcome,
@@ -186,16 +192,6 @@ pub fn against_rust(input: &Input, port: port::Outcome, pair: Pair) -> Judged {
         entries: mended.entries,
     };
     answers.judged()
-}
-
-/// What the bytes of the port's rows say of their numbers.
-fn readings(input: &Input, port: &port::Outcome) -> Vec<Reading> {
-    let rows = match port {
-        port::Outcome::Read(header) => &header.rows[..],
-        port::Outcome::Refused(_) => &[],
-    };
-    let read = |row: &Row| number::read(input, row.kind, row.body);
-    rows.iter().map(read).collect()
 }
 
 /// The number that the port has to give where the last entry that a Rust began, before it refused,
@@ -225,7 +221,7 @@ struct Answers<'a> {
     mended: rust::Outcome,
     entries: Vec<Entry>,
     found: Found,
-    numbers: Vec<Reading>,
+    rows: Option<Rows>,
     demanded: Option<u64>,
     closings: Vec<Closing>,
     false_sum: Option<Closing>,
@@ -238,7 +234,7 @@ impl Answers<'_> {
             pair: self.pair,
             closings: self.closings,
             found: self.found,
-            numbers: self.numbers,
+            rows: self.rows,
             demanded: self.demanded,
             end: self.input.end(),
             otherwise: (self.published != self.mended).then_some(self.published),
@@ -251,7 +247,7 @@ impl Answers<'_> {
             return Verdict::Panicked(self.text());
         }
         let unlike = self.published != self.mended && !self.found.is_mended();
-        if unlike || self.pair.fault().is_some() || self.number_fault().is_some() {
+        if unlike || self.pair.fault().is_some() || self.row_fault().is_some() {
             return Verdict::Differs(self.text());
         }
         // What stands behind a false sum the port never sees.
@@ -264,13 +260,24 @@ impl Answers<'_> {
             Some(Outside::Elements) => Verdict::Outside(Exclusion::Elements),
             None => self.compared(&self.entries[..seen], found),
         };
-        match verdict {
-            Verdict::Accepted(_) | Verdict::Refused(_) | Verdict::FalseSum(_)
+        self.or_outside(verdict)
+    }
+
+    /// A verdict, or that the input stands outside the comparison all the same: for a null dataspace,
+    /// before all other reasons, or for its end-of-file address.
+    fn or_outside(&self, verdict: Verdict) -> Verdict {
+        match (verdict, self.found.null) {
+            (differs @ Verdict::Differs(_), _) => differs,
+            (_, Some(place)) => {
+                let accepts = matches!(self.port, port::Outcome::Read(_));
+                Verdict::Outside(Exclusion::Null(place, accepts))
+            }
+            (Verdict::Accepted(_) | Verdict::Refused(_) | Verdict::FalseSum(_), None)
                 if self.input.is_above_addresses() =>
             {
                 Verdict::Outside(Exclusion::EndOfFile)
             }
-            other => other,
+            (other, None) => other,
         }
     }
 
@@ -341,22 +348,9 @@ impl Answers<'_> {
         }
     }
 
-    /// The first row whose number is not what its bytes say, if any.
-    fn number_fault(&self) -> Option<String> {
-        let port::Outcome::Read(header) = &self.port else {
-            return None;
-        };
-        let rows = header.rows.iter().map(|row| row.number);
-        let mut rows = rows.zip(&self.numbers).enumerate();
-        let unlike = |(row, (ours, reading)): (usize, (Option<Number>, &Reading))| {
-            let (ours, bytes) = (ours?, reading.number());
-            (ours != bytes).then_some((row, ours, bytes))
-        };
-        let (row, ours, bytes) = rows.find_map(unlike)?;
-        Some(format!(
-            "row {row} has the number {},{}, and by its bytes {},{}\n",
-            ours.case, ours.bits, bytes.case, bytes.bits
-        ))
+    /// What is not as the bytes of the port's rows say, if anything.
+    fn row_fault(&self) -> Option<String> {
+        self.rows.as_ref()?.fault(&self.port)
     }
 
     /// Whether a number that ends the comparison is borne out by what the Rust read up to there.
@@ -385,7 +379,7 @@ impl Answers<'_> {
     /// What each says; the published Rust only where it says something else.
     fn text(&self) -> String {
         let mut text = format!("port:\n{}", port_text(&self.port));
-        text += &self.number_fault().unwrap_or_default();
+        text += &self.row_fault().unwrap_or_default();
         text += &pair_text(&self.pair);
         text += &format!("mended Rust:\n{}", rust_text(&self.mended));
         if self.published != self.mended {

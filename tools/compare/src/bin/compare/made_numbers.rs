@@ -1,16 +1,12 @@
 //! Attributes written out by hand, with the numbers that the standard gives them: what the tool's own
 //! reader has to read before it is set beside the port.
 
-use sides::input::{Input, padding};
 use sides::number::{Number, read};
 use sides::scan::ATTRIBUTE;
 
-/// The width of lengths in the spaces below.
-const LENGTH_WIDTH: u8 = 3;
-const NAME: &[u8] = b"Rate\0";
+use crate::made::{Made, are_read_as};
 
-/// Type, space and value, and the two words of each, in hexadecimal digits. SINGLE and DOUBLE stand for
-/// the size and the properties of these, ONE for a space without sizes.
+/// What is behind the value of each are the two words of its number, in hexadecimal digits.
 const MADE: &str = "\
 10000000 01000000 00000800 | ONE | c8 | 1 c8
 10080000 01000000 00000800 | ONE | c8 | 2 ffffffffffffffc8
@@ -30,6 +26,15 @@ const MADE: &str = "\
 10000000 01000000 00000800 | 01010100 00000000 010000 40420f | 05 | 1 5
 10000000 01000000 00000800 | 02010101 010000 ffffff | 05 | 1 5
 10000000 01000000 00000800 | 02010101 010000 41420f | 05 | 0 0
+10000000 01000000 00000800 | 02000001 | 05 | 1 5
+10000000 01000000 00000800 | 02000003 | 05 | 1 5
+10000000 01000000 00000800 | 02000082 | 05 | 1 5
+10000000 01000000 00000800 | 02010000 010000 | 05 | 1 5
+10000000 01000000 00000800 | 01000002 02020202 | 05 | 1 5
+10000000 01000000 00000800 | NULL | 05 | 0 0
+10000000 01000000 00000800 | NULL | | 0 0
+10000000 01000000 00000800 | 02010002 010000 | 05 | 0 0
+11201f00 SINGLE | NULL | 000080bf | 0 0
 10000000 01000000 00000800 | 02010001 000000 | 05 | 0 0
 10000000 01000000 00000800 | 02010001 020000 | 0506 | 0 0
 10000000 01000000 00000800 | 02040001 a32907 1f1f05 03e309 872700 | 05 | 0 0
@@ -61,67 +66,19 @@ const MADE: &str = "\
 19000000 01000000 10000000 01000000 00000800 | ONE | 05 | 0 0
 ";
 
-/// Prints how many of them are read, and answers whether all are: in attributes of both versions.
+/// Prints how many of them are read, and answers whether all are.
 pub fn are_read() -> bool {
-    let both = |line| [1, 3].map(|version| (line, version));
-    let made: Vec<(&str, u8)> = MADE.lines().flat_map(both).collect();
-    let mut wrong = 0;
-    for (line, version) in &made {
-        let (input, number) = attribute(line, *version);
-        let read = read(&input, ATTRIBUTE.into(), 0).number();
-        if read != number {
-            println!("{line}: READ AS {read:?} IN VERSION {version}");
-            wrong += 1;
-        }
-    }
-    println!(
-        "numbers made by hand {}, read otherwise {wrong}",
-        made.len()
-    );
-    wrong == 0
+    are_read_as("numbers", MADE, |made| {
+        let read = read(&made.input, ATTRIBUTE.into(), 0).number();
+        (read != number(made)).then(|| format!("{read:?}"))
+    })
 }
 
-/// The attribute of a line, of a version, and its number.
-fn attribute(line: &str, version: u8) -> (Input, Number) {
-    let line = line
-        .replace("SINGLE", "04000000 00002000170800177f000000")
-        .replace("DOUBLE", "08000000 00004000340b0034ff030000")
-        .replace("ONE", "02000000");
-    let fields: Vec<&str> = line.split('|').collect();
-    let mut file = vec![version, 0, NAME.len() as u8, 0, 0, 0, 0, 0];
-    file.extend(if version == 3 { &[0][..] } else { &[] });
-    for field in [NAME, &bytes(fields[0]), &bytes(fields[1])] {
-        file.extend(field);
-        let padding = if version == 1 {
-            padding(field.len())
-        } else {
-            0
-        };
-        file.resize(file.len() + padding, 7);
-    }
-    file.extend(bytes(fields[2]));
-    let mut words = fields[3].split_whitespace();
+fn number(made: &Made) -> Number {
+    let mut words = made.expected.split_whitespace();
     let mut word = || u64::from_str_radix(words.next().expect("a word"), 16).expect("digits");
-    let number = Number {
+    Number {
         case: word(),
         bits: word(),
-    };
-    let input = Input {
-        offset_width: 8,
-        length_width: LENGTH_WIDTH,
-        end_of_file: file.len() as u64,
-        position: 0,
-        file,
-    };
-    (input, number)
-}
-
-/// The bytes of hexadecimal digits.
-fn bytes(digits: &str) -> Vec<u8> {
-    let digits: Vec<char> = digits.chars().filter(|digit| *digit != ' ').collect();
-    let digit = |digit: &char| digit.to_digit(16).expect("a digit") as u8;
-    let pairs = digits.chunks_exact(2);
-    pairs
-        .map(|pair| digit(&pair[0]) << 4 | digit(&pair[1]))
-        .collect()
+    }
 }

@@ -91,7 +91,7 @@ pub const NUMBERS: &[Breakage] = &[
         })
     }),
     breakage("number-lost-with-sizes-of-1", |i, o| {
-        lose(i, o, |a| a.sizes > 0)
+        lose(i, o, |a| a.space.sizes > 0)
     }),
     breakage("number-lost-with-ignored-bits-of-fixed-point", |i, o| {
         lose(i, o, |a| {
@@ -115,6 +115,7 @@ pub const NUMBERS: &[Breakage] = &[
     }),
     breakage("number-of-unread-attributes", |i, o| add(i, o, Why::Unread)),
     breakage("number-of-other-classes", |i, o| add(i, o, Why::OtherClass)),
+    breakage("number-of-a-null-dataspace", |i, o| add(i, o, Why::Null)),
     breakage("number-of-no-elements", |i, o| {
         add_elements(i, o, |elements| elements == 0)
     }),
@@ -215,7 +216,7 @@ fn add_elements(input: &Input, outcome: Outcome, adds: fn(u128) -> bool) -> Outc
     rows(input, outcome, |reading, body, number| {
         let attribute = scan::attribute(input, body);
         let is_number_but = *reading == Reading::None(Why::But(Rule::Elements));
-        if is_number_but && attribute.is_some_and(|attribute| adds(attribute.elements)) {
+        if is_number_but && attribute.is_some_and(|attribute| adds(attribute.space.elements)) {
             number.case = UNSIGNED;
         }
     })

@@ -81,6 +81,7 @@ fn why_text(why: Why) -> &'static str {
         Why::OtherMessage => "no attribute",
         Why::Unread => "a type or a space without a reading",
         Why::OtherClass => "of another class",
+        Why::Null => "a null dataspace",
         Why::But(Rule::Elements) => "but for the number of elements",
         Why::But(Rule::Size) => "but for the size",
         Why::But(Rule::Offset) => "but for the bit offset",

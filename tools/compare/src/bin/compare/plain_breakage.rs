@@ -2,7 +2,7 @@
 //! operation wrote.
 
 use sides::address::{Address, all_ones};
-use sides::answer::SuperBlock;
+use sides::answer::{Elements, SuperBlock};
 use sides::closing::super_block;
 use sides::plain::{as_version_2, version};
 use sides::port::{NUMBER, PlainAnswer, ROW_WORDS};
@@ -88,6 +88,18 @@ pub const PLAIN: &[Breakage] = &[
     breakage("root-number", |_, a| a.root.object.figures.refused ^= 1),
     breakage("root-next", |_, a| a.root.object.figures.next += 1),
     breakage("root-data", |_, a| a.root.object.data_length += 1),
+    breakage("root-elements", |_, a| elements(a).number ^= 1),
+    breakage("root-elements-too-many", |_, a| elements(a).too_many ^= 1),
+    breakage("root-elements-0-where-refused", |_, a| {
+        if a.root.object.figures.refused != 0 {
+            elements(a).number = 0;
+        }
+    }),
+    breakage("root-elements-0-where-the-superblock-is-refused", |_, a| {
+        if a.super_block.is_err() {
+            elements(a).number = 0;
+        }
+    }),
     breakage("root-row", |_, a| a.root.table[3] ^= 1),
     breakage("root-last-word", |_, a| last_word(a)),
     breakage("root-numbers-lost", |_, a| {
@@ -96,6 +108,11 @@ pub const PLAIN: &[Breakage] = &[
     }),
     breakage("root-of-refused", root_of_refused),
 ];
+
+/// The elements in the record that the root operation wrote.
+fn elements(answer: &mut PlainAnswer) -> &mut Elements {
+    &mut answer.root.object.records.data_space.elements
+}
 
 /// Changes a superblock that is read.
 pub fn block(answer: &mut PlainAnswer, change: fn(&mut SuperBlock)) {

@@ -2,10 +2,10 @@
 //! filling alone.
 
 use sides::answer::SuperBlock;
-use sides::listing::{self, PART, lines, refused};
+use sides::listing::{self, lines, refused};
 use sides::pair::{Figures, LISTED_ROWS, TABLE_TOO_SMALL};
 use sides::plain::as_version_2;
-use sides::port::{NUMBER, PlainAnswer, ROW_WORDS, check};
+use sides::port::{NUMBER, PART, PlainAnswer, ROW_WORDS, check};
 use sides::rust::published::rust_super_block;
 
 use crate::breakage::Breakage;

@@ -6,7 +6,7 @@ use std::time::Instant;
 
 use sides::address::Place;
 use sides::generate::plain::plain_batch;
-use sides::generate::{crowded, numeric};
+use sides::generate::{crowded, numeric, spaces};
 use sides::input::digits;
 use sides::pair::{Sizes, TABLE_TOO_SMALL};
 use sides::real;
@@ -161,7 +161,8 @@ pub fn all(arguments: &Arguments, count: u64) -> io::Result<bool> {
     let further = |name, batch| further_files(arguments, count, name, batch);
     let crowded = further("crowded plain files", crowded::plain_batch);
     let numeric = further("numeric plain files", numeric::plain_batch);
-    Ok(plain && crowded && numeric)
+    let spaces = further("plain files of dataspaces", spaces::plain_batch);
+    Ok(plain && crowded && numeric && spaces)
 }
 
 /// Compares so many plain files from the seed beside the real ones, and prints the counts.

@@ -5,15 +5,16 @@ use std::sync::atomic::{AtomicU64, Ordering};
 use std::thread::Builder;
 use std::time::Instant;
 
-use sides::generate::{BATCH, batch, crowded, large, numeric};
+use sides::generate::{BATCH, batch, crowded, large, numeric, spaces};
 use sides::input::Input;
 use sides::pair::Sizes;
 use sides::real;
 use sides::rust::STACK;
 
 use crate::arguments::Arguments;
-use crate::counts::{Counts, Sum, print_contents};
+use crate::counts::{Beside, Counts, Sum, print_contents};
 use crate::judge::{Judge, Judged, Verdict, header_text, pair_text, published_text, sums_text};
+use crate::outside::Outside;
 use crate::plain_run;
 use crate::shrink::shrink;
 
@@ -92,8 +93,9 @@ pub fn run(arguments: &Arguments) -> io::Result<bool> {
     let headers = headers(arguments, count)?;
     let crowded = further_headers(arguments, count, "crowded headers", crowded::batch);
     let numeric = further_headers(arguments, count, "numeric headers", numeric::batch);
+    let spaces = further_headers(arguments, count, "headers of dataspaces", spaces::batch);
     let files = plain_run::all(arguments, count / HEADERS_TO_PLAIN)?;
-    Ok(headers && crowded && numeric && files)
+    Ok(headers && crowded && numeric && spaces && files)
 }
 
 fn headers(arguments: &Arguments, count: u64) -> io::Result<bool> {
@@ -105,6 +107,7 @@ fn headers(arguments: &Arguments, count: u64) -> io::Result<bool> {
         headers.count(input, &judge.judged(input));
     }
     let beside = headers.counts.beside.clone();
+    let outside = headers.counts.outside.clone();
     let false_sums = headers.counts.false_sums();
     for input in &large::inputs() {
         headers.count(input, &judge.judged(input));
@@ -125,8 +128,7 @@ fn headers(arguments: &Arguments, count: u64) -> io::Result<bool> {
         headers.counts.headers,
         real.len()
     );
-    beside.print("headers of real files as they are ");
-    println!("headers of real files as they are with a false sum {false_sums}");
+    print_real(&beside, &outside, false_sums);
     print_counts(&headers.counts, start);
     headers.print_shown(arguments);
     let shows_patch = headers.counts.beside.shows_patch();
@@ -134,6 +136,14 @@ fn headers(arguments: &Arguments, count: u64) -> io::Result<bool> {
         println!("the published Rust answers nothing otherwise than the mended one");
     }
     Ok(headers.is_right() && shows_patch)
+}
+
+/// Prints what is said of the headers of real files as they are.
+fn print_real(beside: &Beside, outside: &Outside, false_sums: u64) {
+    const NAME: &str = "headers of real files as they are ";
+    beside.print(NAME);
+    outside.print(NAME);
+    println!("{NAME}with a false sum {false_sums}");
 }
 
 /// Compares the headers with a name that go with so many inputs.

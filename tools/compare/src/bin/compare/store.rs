@@ -6,7 +6,7 @@ use std::path::Path;
 
 use sides::address::{self, Seen};
 use sides::answer::REFUSED;
-use sides::generate::{BATCH, batch};
+use sides::generate::{BATCH, batch, spaces};
 use sides::input::Input;
 use sides::pair::Sizes;
 use sides::random::Random;
@@ -17,13 +17,13 @@ use sides::scan;
 use crate::arguments::Arguments;
 use crate::counts::Addresses;
 use crate::features::{
-    BY_FORMS, Feature, of_addresses, of_demand, of_forms, of_header, of_last_address, of_refusal,
-    of_sums,
+    BY_FORMS, Feature, of_addresses, of_demand, of_elements, of_forms, of_header, of_last_address,
+    of_refusal, of_sums,
 };
 use crate::judge::{Judge, Judged, OF_CONTINUATION, Verdict, demanded};
 
 const COUNT: u64 = 4000;
-const BYTES: usize = 1_500_000;
+const BYTES: usize = 1_600_000;
 const MOST_ROWS: usize = 64;
 const MOST_BYTES: usize = 8192;
 /// Inputs that are kept for each feature, the smallest ones.
@@ -53,9 +53,9 @@ pub fn store(arguments: &Arguments, path: &Path) -> io::Result<bool> {
     let mut judge = Judge::new(None);
     let mut agree = true;
     for number in 0..arguments.candidates.div_ceil(BATCH as u64) {
-        batch(arguments.seed, number, &real, &mut |input| {
-            agree &= note(&mut shown, &mut judge, input);
-        });
+        let mut show = |input: &Input| agree &= note(&mut shown, &mut judge, input);
+        batch(arguments.seed, number, &real, &mut show);
+        spaces::batch(arguments.seed, number, &mut show);
     }
     if !agree {
         println!("the two sides disagree: nothing is stored");
@@ -116,6 +116,7 @@ fn features(input: &Input, judged: &Judged) -> Vec<Feature> {
             let mut features = of_header(input, header);
             features.extend(of_sums(header, &judged.closings));
             features.extend(of_addresses(input, header, &found.addresses));
+            features.extend(of_elements(header));
             features.extend(of_forms(input, "accepted", &found.forms));
             features.extend(of_forms(input, "failing", &found.failed));
             features
@@ -168,8 +169,8 @@ fn choose(shown: &Shown, seed: u64, count: usize) -> Vec<Chosen> {
 }
 
 /// Features in a random order, so that none is left out for its name alone, rank by rank. Those of
-/// padded forms, of sums and of undefined addresses come first: they are few, and there is not room
-/// for all others.
+/// padded forms, of sums, of undefined addresses and of elements come first: they are few, and there is
+/// not room for all others.
 fn ranked(shown: &Shown, seed: u64) -> Vec<(&Feature, &Input)> {
     let mut random = Random::new(seed, u64::MAX);
     let mut features: Vec<_> = shown
