@@ -21,7 +21,6 @@ use Rattle.records.specs.declared.Dimensions.{Dimensions}
 use Rattle.records.specs.declared.DataSpace.{DataSpace}
 use Rattle.parser.specs.declared.State.{State}
 use Rattle.ohdr_dataspace.specs.DataSpaces.{dimension, dimensionsFrom, dimensions, maximumSizes, dataSpace1, dataSpace2, dataSpace}
-use Rattle.ohdr_dataspace.specs.DataSpaces as spaces
 use Rattle.ohdr_dataspace.specs.Answers.{dataSpaceSizes}
 use Rattle.standard.specs.Fields.{many}
 use Rattle.standard.specs.Tie.{Every}
