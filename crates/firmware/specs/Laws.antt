@@ -1,22 +1,26 @@
--- What is handed over for a part, and for a header or a file that is refused. Assumes nothing.
+-- What is handed over for a part, for a set of names that is refused or not, and for a header or a file that is refused. Assumes nothing.
 use Prim.Native.Nat.{ℕ, _+_, _≤_, _<_}
-use mathlib.Core.Path.{_≡_, refl, ap}
+use mathlib.Core.Path.{_≡_, refl, sym, ap}
 use mathlib.Core.List.{List}
 use native.Mathlib.Omega.{arith}
 use lib.ListN.{length, getD, replicate}
 use borrow.Author.Tests.{le-leb, lt-leb}
 use Rattle.format.specs.Format.{Out, found, refused}
 use Rattle.records.specs.declared.Part.{Part}
+use Rattle.records.specs.RefusalLaws.{refusal-positive}
 use Rattle.super_block.specs.declared.SuperBlock.{SuperBlock}
 use Rattle.super_block.specs.SuperBlocks.{superBlockOf}
 use Rattle.data_object_winners.specs.Wins.{Wins}
 use Rattle.data_object.specs.declared.Answer.{Answer}
 use Rattle.data_object.specs.declared.Answer.the-variants as answers
 use Rattle.data_object.specs.Decoded.{Meant}
-use Rattle.firmware.specs.Words.{noPart, inWords}
+use Rattle.lookup_names.specs.declared.NamesAnswer.{NamesAnswer}
+use Rattle.lookup_names.specs.declared.NamesAnswer.the-variants as names
+use Rattle.lookup_names.specs.Names.{namesIn, Answers, LookedNames}
+use Rattle.firmware.specs.Words.{noPart, inWords, namesOf}
 use Rattle.data_object_words.specs.Handed.{Handed}
 use Rattle.data_object_root.specs.Root.{refusedWords, HandedBy, HandedRoot}
-use Rattle.firmware.specs.Handed.{HandedPart}
+use Rattle.firmware.specs.Handed.{HandedNames, HandedPart}
 
 module _ (file : List ℕ) (p : Part) where
   pub part-lies : p .position + p .length ≤ length file → HandedPart file p (inWords p)
@@ -34,6 +38,22 @@ module _ (file : List ℕ) (p : Part) where
         inside = omega arith;
         bytes = rw (lt-leb (p .position + p .length) (length file) h);
       }
+
+-- The word 0 says that every name has its answer, and any other that all answers are zero.
+module _ (file table : List ℕ) (rows : ℕ) (text set : List ℕ) (lent : ℕ) (answers : List ℕ) where
+  pub names-answered : HandedNames file table rows text set lent answers 0 → Answers file table rows text set lent (namesIn set) answers
+  names-answered h = go (h .answer) (h .looked) (h .word)
+    where
+      go : (a : NamesAnswer) → LookedNames file table rows text set lent answers a → 0 ≡ namesOf a → Answers file table rows text set lent (namesIn set) answers
+      go names.Answered l e = l .2
+      go (names.Refused r) l e = absurd (refusal-positive r (sym e))
+
+  pub names-refused : (r : ℕ) → HandedNames file table rows text set lent answers r → (r ≡ 0 → ⊥) → answers ≡ replicate lent 0
+  names-refused r h f = go (h .answer) (h .looked) (h .word)
+    where
+      go : (a : NamesAnswer) → LookedNames file table rows text set lent answers a → r ≡ namesOf a → answers ≡ replicate lent 0
+      go names.Answered l e = absurd (f e)
+      go (names.Refused q) l e = l .1
 
 -- Of a header that is refused every word but the number is that of the defaults, and the whole table is 0.
 module _ {file : List ℕ} {offsets lengths end at n : ℕ} {t w : List ℕ} (h : Handed file offsets lengths end at n t w) where

@@ -1,10 +1,12 @@
--- The words that are handed to C for a lookup, a check and a part: each case of each answer has its number and its values. Assumes nothing: these are
+-- The words that are handed to C for a lookup, a set of names, a check and a part: each case of each answer has its number and its values. Assumes nothing: these are
 -- definitions.
 use Prim.Native.Nat.{ℕ}
 use Rattle.records.specs.Refusals.{refusalNumber}
 use Rattle.records.specs.declared.Part.{Part}
 use Rattle.lookup.specs.declared.LookupAnswer.{LookupAnswer}
 use Rattle.lookup.specs.declared.LookupAnswer.the-variants as lookups
+use Rattle.lookup_names.specs.declared.NamesAnswer.{NamesAnswer}
+use Rattle.lookup_names.specs.declared.NamesAnswer.the-variants as names
 use Rattle.data_object_check.specs.declared.CheckAnswer.{CheckAnswer}
 use Rattle.data_object_check.specs.declared.CheckAnswer.the-variants as checks
 use Rattle.firmware.specs.declared.PartWords.{PartWords}
@@ -26,6 +28,11 @@ abbrev pub lookupOf : LookupAnswer → LookupWords
 lookupOf (lookups.At i) = foundRow 0 1 i
 lookupOf lookups.Nothing = foundRow 0 0 0
 lookupOf (lookups.Refused r) = foundRow (refusalNumber r) 0 0
+
+-- 0, or the refusal's number
+abbrev pub namesOf : NamesAnswer → ℕ
+namesOf names.Answered = 0
+namesOf (names.Refused r) = refusalNumber r
 
 -- 0 and the figures; the refusal's number and zeros
 abbrev pub checkOf : CheckAnswer → CheckWords

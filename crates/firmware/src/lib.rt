@@ -8,6 +8,8 @@ use data_object_words::header_words;
 use listing_text::list;
 use lookup::LookupAnswer;
 use lookup::lookup;
+use lookup_names::NamesAnswer;
+use lookup_names::lookup_names;
 use records::Address;
 use super_block::SuperBlockRead;
 use super_block::super_block;
@@ -19,9 +21,9 @@ ghost use Rattle.super_block.specs.Answers.{superBlockOut};
 ghost use Rattle.data_object_check.specs.Checked.{Checked};
 ghost use Rattle.data_object_words.specs.Handed.{Handed, TrueWords};
 ghost use Rattle.data_object_root.specs.Root.{HandedRoot, CheckedRoot};
-ghost use Rattle.firmware.specs.Words.{foundRow, lookupOf, checkOf};
+ghost use Rattle.firmware.specs.Words.{foundRow, lookupOf, namesOf, checkOf};
 ghost use Rattle.firmware.specs.Blocks.{wordsOfAddress, blockOf};
-ghost use Rattle.firmware.specs.Handed.{HandedRow, HandedPart, HandedCheck};
+ghost use Rattle.firmware.specs.Handed.{HandedRow, HandedNames, HandedPart, HandedCheck};
 
 // Bytes of the file, from a position on.
 #[repr(C)]
@@ -87,6 +89,15 @@ fn lookup_words(answer: LookupAnswer) -> LookupWords
             let number = refusal.number();
             found_row(number, 0, 0)
         }
+    }
+}
+
+fn names_word(answer: NamesAnswer) -> u64
+    ensures { λ r. ⌜ r ≡ namesOf answer ⌝ }
+{
+    match answer {
+        NamesAnswer::Answered => 0,
+        NamesAnswer::Refused(refusal) => refusal.number(),
     }
 }
 
@@ -240,6 +251,22 @@ pub extern "C" fn dowringaf_lookup(
 {
     let answer = lookup(file, table, rows, name);
     lookup_words(answer)
+}
+
+// For each wanted name, a part of the text, what `dowringaf_lookup` finds: its row plus one, or 0.
+#[no_mangle]
+pub extern "C" fn dowringaf_lookup_names(
+    file: &[u8],
+    table: &[u64],
+    rows: usize,
+    text: &[u8],
+    names: &[u64],
+    answers: &mut [u64],
+) -> u64
+    ensures { λ r. ⌜ HandedNames (now (file .entry)) (now (table .entry)) rows (now (text .entry)) (now (names .entry)) (length (now (answers .entry))) (now (answers .exit)) r ⌝ }
+{
+    let answer = lookup_names(file, table, rows, text, names, answers);
+    names_word(answer)
 }
 
 // A part that lies in the file, as it is; 0 and 0 for one that leaves it. No reference crosses to

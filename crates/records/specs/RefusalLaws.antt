@@ -40,6 +40,7 @@ inOrder =
     ∷ refusals.SuperBlockVersion
     ∷ refusals.BaseAddress
     ∷ refusals.Checksum
+    ∷ refusals.Names
     ∷ []
 
 given-back : (r : Refusal) → getD inOrder (refusalNumber r) refusals.Width ≡ r
@@ -72,6 +73,7 @@ given-back refusals.SuperBlockSignature = refl
 given-back refusals.SuperBlockVersion = refl
 given-back refusals.BaseAddress = refl
 given-back refusals.Checksum = refl
+given-back refusals.Names = refl
 
 -- no refusal has the number 0
 pub refusal-positive : (r : Refusal) → refusalNumber r ≡ 0 → ⊥

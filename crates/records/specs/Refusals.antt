@@ -32,3 +32,4 @@ refusalNumber refusals.SuperBlockSignature = 25
 refusalNumber refusals.SuperBlockVersion = 26
 refusalNumber refusals.BaseAddress = 27
 refusalNumber refusals.Checksum = 28
+refusalNumber refusals.Names = 29

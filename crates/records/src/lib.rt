@@ -64,6 +64,8 @@ pub enum Refusal {
     BaseAddress,
     // 28: checksum
     Checksum,
+    // 29: more than 32 names, or more than the answers lent
+    Names,
 }
 
 impl Refusal {
@@ -99,6 +101,7 @@ impl Refusal {
             Refusal::SuperBlockVersion => 26,
             Refusal::BaseAddress => 27,
             Refusal::Checksum => 28,
+            Refusal::Names => 29,
         }
     }
 }

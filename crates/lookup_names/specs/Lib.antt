@@ -1,0 +1,4 @@
+pub mod Names
+pub mod Facts
+pub mod Unique
+pub mod Samples
