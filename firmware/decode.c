@@ -1,9 +1,10 @@
 /*
- * Prints what an object header holds.
+ * Prints what an object header holds, or the attributes of some names in it.
  *
  *   decode [--check] FILE
  *   decode [--check] FILE POSITION
  *   decode [--check] FILE POSITION OFFSET_WIDTH LENGTH_WIDTH END_OF_FILE
+ *   decode FILE ... --find NAME...
  *
  * The first takes the root group's header and the second the header at a position, both by the
  * file's own superblock; the third is for files whose superblock is not of version 2 or 3. The
@@ -27,6 +28,18 @@
  * A header is checked first, and then as many rows are set aside as it takes. With --check it stays
  * at that, and in place of the header's lines one is printed: `checked`, the position after the
  * header, its entries and its rows.
+ *
+ * With --find behind what tells the header, all further words are names, which are looked up in one
+ * call; of a SOFA file's root they are its global attributes. In place of the header's lines there
+ * is one for each name, in the order in which they are given: the name, its row, the first being 0,
+ * and what follows the name in that row's own line; or the name and a hyphen where no attribute has
+ * it. More than 32 names are `refused,29`. Attributes that stand in a heap, as those of a root with
+ * more than 8, are not in its header: where a name has none, and there is a heap, that is said on
+ * standard error.
+ *
+ *   Title,3,5,HRTFs
+ *   SamplingRate,7,-,,unsigned,48000,0x000000000000bb80
+ *   Comment,-
  */
 #include <stdio.h>
 #include <stdlib.h>
@@ -47,6 +60,14 @@ static dowringaf_object object;
 struct bytes {
     uint8_t *at;
     size_t count;
+};
+
+/* What is asked of a header: the check alone, the attributes of these names, or all of it. */
+struct asked {
+    int only_check;
+    int find;
+    size_t count;
+    char **names;
 };
 
 /* A number of digits alone. Yields 0 where it is none, or above 64 bits. */
@@ -210,6 +231,18 @@ static void put_value(const uint64_t *row)
     }
 }
 
+/* What follows the name in a row's line: its part, and its number. */
+static void put_content(const struct bytes *file, const uint64_t *row)
+{
+    if (row[DOWRINGAF_ROW_PART] != 0) {
+        put_part(file, row[DOWRINGAF_ROW_PART_POSITION], row[DOWRINGAF_ROW_PART_LENGTH]);
+    } else {
+        fputs(",-,", stdout);
+    }
+    put_value(row);
+    putchar('\n');
+}
+
 static void put_row(const struct bytes *file, const uint64_t *row)
 {
     printf("%llu", (unsigned long long)row[DOWRINGAF_ROW_TYPE]);
@@ -221,13 +254,7 @@ static void put_row(const struct bytes *file, const uint64_t *row)
     } else {
         fputs(",-,", stdout);
     }
-    if (row[DOWRINGAF_ROW_PART] != 0) {
-        put_part(file, row[DOWRINGAF_ROW_PART_POSITION], row[DOWRINGAF_ROW_PART_LENGTH]);
-    } else {
-        fputs(",-,", stdout);
-    }
-    put_value(row);
-    putchar('\n');
+    put_content(file, row);
 }
 
 static void put_dimensions(const dowringaf_dimensions *dimensions)
@@ -387,22 +414,95 @@ static void fill(const struct bytes *file, const uint64_t *numbers, uint64_t *ta
     }
 }
 
-/* A header in a table of as many rows as it takes. Yields 0 where there is no memory for it. */
-static int decode_rows(const struct bytes *file, const uint64_t *numbers, size_t rows)
+/* A line for each name, whose row plus 1 is given; 0 where it has none. */
+static void put_found(const struct bytes *file, const uint64_t *table, const struct asked *asked,
+                      const uint64_t *answers)
 {
-    uint64_t *table = calloc(rows, DOWRINGAF_ROW_WORDS * sizeof *table);
+    const dowringaf_address *heap = &object.attribute_info.fractal_heap_address;
+    size_t missing = 0;
+    size_t i;
 
-    if (table == NULL && rows != 0) {
-        return 0;
+    for (i = 0; i < asked->count; i++) {
+        fputs(asked->names[i], stdout);
+        if (answers[i] == 0) {
+            fputs(",-\n", stdout);
+            missing++;
+        } else {
+            put_number(answers[i] - 1);
+            put_content(file, table + (answers[i] - 1) * DOWRINGAF_ROW_WORDS);
+        }
     }
-    fill(file, numbers, table, rows * DOWRINGAF_ROW_WORDS);
-    put_object(file, table);
-    free(table);
-    return 1;
+    if (missing != 0 && heap->undefined == 0 && heap->number != 0) {
+        fputs("attributes that stand in a heap are not looked up\n", stderr);
+    }
 }
 
-/* A header, or only what the check says of it. Yields 0 where there is no memory for it. */
-static int decode(const struct bytes *file, const uint64_t *numbers, int only_check)
+/* The names one after another, and their places; yields the length of it all. */
+static size_t lay_out(const struct asked *asked, uint8_t *text, uint64_t *places)
+{
+    size_t bytes = 0;
+    size_t i;
+
+    for (i = 0; i < asked->count; i++) {
+        size_t length = strlen(asked->names[i]);
+
+        if (text != NULL) {
+            memcpy(text + bytes, asked->names[i], length);
+            places[2 * i] = bytes;
+            places[2 * i + 1] = length;
+        }
+        bytes += length;
+    }
+    return bytes;
+}
+
+/* Looks the names up, all in one call. Yields 0 where there is no memory for them. */
+static int find(const struct bytes *file, const uint64_t *table, const struct asked *asked)
+{
+    uint8_t *text = malloc(lay_out(asked, NULL, NULL) + 1);
+    uint64_t *places = calloc(asked->count, 2 * sizeof *places);
+    uint64_t *answers = calloc(asked->count, sizeof *answers);
+    int has_memory = text != NULL && places != NULL && answers != NULL;
+
+    if (has_memory) {
+        size_t bytes = lay_out(asked, text, places);
+        uint64_t refused = dowringaf_lookup_names(
+            file->at, file->count, table, object.rows * DOWRINGAF_ROW_WORDS, object.rows, text,
+            bytes, places, 2 * asked->count, answers, asked->count);
+
+        if (refused != 0) {
+            put_refused(refused);
+        } else {
+            put_found(file, table, asked, answers);
+        }
+    }
+    free(answers);
+    free(places);
+    free(text);
+    return has_memory;
+}
+
+/* A header in a table of as many rows as it takes. Yields 0 where there is no memory for it. */
+static int decode_rows(const struct bytes *file, const uint64_t *numbers, size_t rows,
+                       const struct asked *asked)
+{
+    uint64_t *table = calloc(rows, DOWRINGAF_ROW_WORDS * sizeof *table);
+    int has_memory = table != NULL || rows == 0;
+
+    if (has_memory) {
+        fill(file, numbers, table, rows * DOWRINGAF_ROW_WORDS);
+        if (asked->find && object.refused == 0) {
+            has_memory = find(file, table, asked);
+        } else {
+            put_object(file, table);
+        }
+    }
+    free(table);
+    return has_memory;
+}
+
+/* What is asked of a header. Yields 0 where there is no memory for it. */
+static int decode(const struct bytes *file, const uint64_t *numbers, const struct asked *asked)
 {
     dowringaf_checked checked = check(file, numbers);
 
@@ -410,16 +510,16 @@ static int decode(const struct bytes *file, const uint64_t *numbers, int only_ch
         put_refused(checked.refused);
         return 1;
     }
-    if (only_check) {
+    if (asked->only_check) {
         put_figures("checked", checked.next, checked.entries, checked.rows);
         return 1;
     }
-    return decode_rows(file, numbers, checked.rows);
+    return decode_rows(file, numbers, checked.rows, asked);
 }
 
 /* The root's header, or with a number the one at that position. */
 static int decode_by_superblock(const struct bytes *file, uint64_t *numbers, int count,
-                                int only_check)
+                                const struct asked *asked)
 {
     dowringaf_superblock block = dowringaf_super_block(file->at, file->count);
 
@@ -431,7 +531,14 @@ static int decode_by_superblock(const struct bytes *file, uint64_t *numbers, int
     numbers[OFFSET_WIDTH] = block.size_of_offsets;
     numbers[LENGTH_WIDTH] = block.size_of_lengths;
     numbers[END_OF_FILE] = block.end_of_file_address;
-    return decode(file, count == 0 ? NULL : numbers, only_check);
+    return decode(file, count == 0 ? NULL : numbers, asked);
+}
+
+static void put_usage(void)
+{
+    fputs("decode [--check] FILE [POSITION [OFFSET_WIDTH LENGTH_WIDTH END_OF_FILE]]\n"
+          "decode FILE [POSITION [OFFSET_WIDTH LENGTH_WIDTH END_OF_FILE]] --find NAME...\n",
+          stderr);
 }
 
 /*
@@ -443,8 +550,7 @@ static int numbers_of(int count, char **words, uint64_t *numbers)
     int i;
 
     if (count != 0 && count != 1 && count != NUMBERS) {
-        fputs("decode [--check] FILE [POSITION [OFFSET_WIDTH LENGTH_WIDTH END_OF_FILE]]\n",
-              stderr);
+        put_usage();
         return -1;
     }
     for (i = 0; i < count; i++) {
@@ -457,7 +563,7 @@ static int numbers_of(int count, char **words, uint64_t *numbers)
 }
 
 /* Reads and decodes a file. Yields 0 where that could not be done. */
-static int decode_file(const char *path, uint64_t *numbers, int given, int only_check)
+static int decode_file(const char *path, uint64_t *numbers, int given, const struct asked *asked)
 {
     struct bytes file;
     int decoded = 0;
@@ -465,24 +571,54 @@ static int decode_file(const char *path, uint64_t *numbers, int given, int only_
     if (!read_file(path, &file)) {
         fprintf(stderr, "%s: cannot be read\n", path);
     } else {
-        decoded = given == NUMBERS ? decode(&file, numbers, only_check)
-                                   : decode_by_superblock(&file, numbers, given, only_check);
+        decoded = given == NUMBERS ? decode(&file, numbers, asked)
+                                   : decode_by_superblock(&file, numbers, given, asked);
         if (!decoded) {
-            fputs("no memory for the table\n", stderr);
+            fputs("no memory for the table or the names\n", stderr);
         }
     }
     free(file.at);
     return decoded;
 }
 
+/*
+ * Takes the names off the words: those behind the first --find that follows the file's name. Yields
+ * how many words are left.
+ */
+static int take_names(int count, char **words, struct asked *asked)
+{
+    int i;
+
+    for (i = 2; i < count; i++) {
+        if (strcmp(words[i], "--find") == 0) {
+            asked->find = 1;
+            asked->count = (size_t)(count - i - 1);
+            asked->names = words + i + 1;
+            return i;
+        }
+    }
+    return count;
+}
+
 int main(int count, char **words)
 {
     uint64_t numbers[NUMBERS];
-    int only_check = count > 1 && strcmp(words[1], "--check") == 0;
-    int path = only_check ? 2 : 1;
-    int given = numbers_of(count - path - 1, words + path + 1, numbers);
+    struct asked asked = {0, 0, 0, NULL};
+    int path = 1;
+    int given;
 
-    if (given < 0 || !decode_file(words[path], numbers, given, only_check)) {
+    if (count > 1 && strcmp(words[1], "--check") == 0) {
+        asked.only_check = 1;
+        path = 2;
+    } else {
+        count = take_names(count, words, &asked);
+    }
+    if (asked.find && asked.count == 0) {
+        put_usage();
+        return 2;
+    }
+    given = numbers_of(count - path - 1, words + path + 1, numbers);
+    if (given < 0 || !decode_file(words[path], numbers, given, &asked)) {
         return 2;
     }
     if (fflush(stdout) != 0 || ferror(stdout)) {

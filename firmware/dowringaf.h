@@ -6,18 +6,18 @@
  *   - they always return, and allocate nothing;
  *   - they keep no state between calls, and call nothing but memset and memcpy;
  *   - they read nothing beyond the elements that they are given;
- *   - they write nothing but the table and the object, or out.
+ *   - they write nothing but the table and the object, or the answers, or out.
  *
  * The proofs rest on what the caller guarantees. Nothing of it is tested:
  *
  *   - a pointer with a count points to that many initialised elements, aligned; with a count of 0
  *     it may be NULL; out points to DOWRINGAF_LISTING of them, and the object is initialised too;
- *   - the table, the object, or out, overlaps nothing else that the call is given;
- *   - nobody else writes to what is given, and nobody reads the table, the object or out, during
- *     the call;
+ *   - what a call writes (the table and the object, the answers, or out) overlaps nothing else that
+ *     it is given;
+ *   - nobody else writes to what is given, and nobody reads what the call writes, during the call;
  *   - the stack has room. The proofs say nothing of it: DOWRINGAF_DECODING_STACK and
  *     DOWRINGAF_LISTING_STACK are bounds on what was measured at the deepest (firmware/stack.c);
- *     the three functions that neither is for use less than the first.
+ *     the four functions that neither is for use less than the first.
  *
  * Time is not proved either. For one entry of a header the file is read forwards, up to its end at
  * most, and the checksums are of little more than the bytes that entries pass; so a call takes at
@@ -78,7 +78,8 @@ enum dowringaf_refusal {
     DOWRINGAF_SUPERBLOCK_SIGNATURE = 25,   /* no HDF5 format signature at byte 0 */
     DOWRINGAF_SUPERBLOCK_VERSION = 26,     /* a superblock of a version other than 2 and 3 */
     DOWRINGAF_BASE_ADDRESS = 27,           /* a base address other than 0 */
-    DOWRINGAF_CHECKSUM = 28                /* a checksum that is not that of its bytes */
+    DOWRINGAF_CHECKSUM = 28,               /* a checksum that is not that of its bytes */
+    DOWRINGAF_NAMES = 29                   /* more than 32 names, or more than the answers lent */
 };
 
 /*
@@ -370,6 +371,29 @@ dowringaf_checked dowringaf_check_data_object(const uint8_t *file, size_t file_b
 dowringaf_found dowringaf_lookup(const uint8_t *file, size_t file_bytes, const uint64_t *table,
                                  size_t table_words, size_t rows, const uint8_t *name,
                                  size_t name_bytes);
+
+/* The most names of a set. */
+#define DOWRINGAF_MOST_NAMES 32
+
+/*
+ * Looks many names up in one call. The names are parts of a text that the caller lends, and have
+ * two words each: the position in the text, and the length. An odd last word is no name. They may
+ * overlap, and a name may occur more than once.
+ *
+ * Each name has an answer, in the names' order: 1 more than the row that dowringaf_lookup finds for
+ * its bytes, so that the first row is 1, or 0 where it finds none. A name that leaves the text has
+ * 0 too: one whose position plus length, as a true sum, is more than text_bytes. An empty name at
+ * the text's very end does not leave it. The answers behind those of the names are 0. What stood in
+ * the answers before makes no difference.
+ *
+ * Yields 0, or why all answers are 0: DOWRINGAF_NAMES where there are more names than
+ * DOWRINGAF_MOST_NAMES or than answers, and then DOWRINGAF_TABLE for more rows than the table has,
+ * be there names or not.
+ */
+uint64_t dowringaf_lookup_names(const uint8_t *file, size_t file_bytes, const uint64_t *table,
+                                size_t table_words, size_t rows, const uint8_t *text,
+                                size_t text_bytes, const uint64_t *names, size_t name_words,
+                                uint64_t *answers, size_t answer_words);
 
 /*
  * The part at a position where it lies in the file, 0 and 0 where it leaves it. In either case the

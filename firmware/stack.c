@@ -1,6 +1,7 @@
 /*
  * How much stack the calls use at the deepest: in the header of a file's root 25 levels of blocks,
- * and in the last of them a type of 32 levels. The proofs say nothing of the stack. Each call runs
+ * and in the last of them a type of 32 levels; and the lookup of 32 names in its table, which does
+ * not depend on what they are. The proofs say nothing of the stack. Each call runs
  * in a thread whose stack is filled with a pattern before, so that it shows how far it was written;
  * what a thread that calls nothing writes is taken off. Fails where a call uses more than
  * dowringaf.h says.
@@ -27,6 +28,9 @@ static dowringaf_object root_object;
 static dowringaf_checked checked;
 static dowringaf_checked checked_root;
 static size_t listed;
+static uint64_t names[2 * DOWRINGAF_MOST_NAMES];
+static uint64_t answers[DOWRINGAF_MOST_NAMES];
+static uint64_t names_refused = 1;
 
 static void put(uint64_t number, int width)
 {
@@ -153,6 +157,14 @@ static void *list(void *unused)
     return unused;
 }
 
+static void *look_up_names(void *unused)
+{
+    names_refused = dowringaf_lookup_names(file, count, table, table_words, 16, file, count, names,
+                                           2 * DOWRINGAF_MOST_NAMES, answers,
+                                           DOWRINGAF_MOST_NAMES);
+    return unused;
+}
+
 /* The bytes of a thread's stack that were written while it ran. */
 static size_t written(void *(*run)(void *))
 {
@@ -183,14 +195,14 @@ static int is_deepest(uint64_t refused, uint64_t entries, uint64_t rows)
     return refused == 0 && entries == BLOCKS + 1 && rows == 1;
 }
 
-/* Whether every call read the deepest header. */
+/* Whether every call read the deepest header, and names were looked up. */
 static int all_read(void)
 {
     return is_deepest(object.refused, object.entries, object.rows) &&
            is_deepest(root_object.refused, root_object.entries, root_object.rows) &&
            is_deepest(checked.refused, checked.entries, checked.rows) &&
            is_deepest(checked_root.refused, checked_root.entries, checked_root.rows) &&
-           listed != 0 && memcmp(out, "0,3,", 4) == 0;
+           listed != 0 && memcmp(out, "0,3,", 4) == 0 && names_refused == 0;
 }
 
 /* What a call uses, of some bytes that it may; yields 0 where it uses more. */
@@ -212,6 +224,7 @@ int main(void)
     below &= stays_below("root", decode_root, none, DOWRINGAF_DECODING_STACK);
     below &= stays_below("check", check, none, DOWRINGAF_DECODING_STACK);
     below &= stays_below("check of the root", check_root, none, DOWRINGAF_DECODING_STACK);
+    below &= stays_below("names", look_up_names, none, DOWRINGAF_DECODING_STACK);
     below &= stays_below("listing", list, none, DOWRINGAF_LISTING_STACK);
     if (!all_read()) {
         puts("the deepest header is not read");

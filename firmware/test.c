@@ -2964,6 +2964,337 @@ static void test_changed(void)
     filling_is(&h, 3 * DOWRINGAF_ROW_WORDS, passed_with(71, 3, 3));
 }
 
+/* A set of names, and the table and the file that they are looked up in. */
+struct set {
+    const uint8_t *file;
+    size_t bytes;
+    const uint64_t *table;
+    size_t words;
+    size_t rows;
+    const uint8_t *text;
+    size_t text_bytes;
+    const uint64_t *names;
+    size_t name_words;
+    size_t lent;
+};
+
+/* Whether so many bytes from a position on lie within a length. */
+static int lies(uint64_t position, uint64_t length, size_t bytes)
+{
+    return position <= bytes && length <= bytes - position;
+}
+
+static int bears(const struct set *s, const uint64_t *row, const uint8_t *name, uint64_t length)
+{
+    uint64_t position = row[DOWRINGAF_ROW_NAME_POSITION];
+
+    return row[DOWRINGAF_ROW_TYPE] == 12 && row[DOWRINGAF_ROW_NAME] == 1 &&
+           row[DOWRINGAF_ROW_NAME_LENGTH] == length && lies(position, length, s->bytes) &&
+           (length == 0 || memcmp(s->file + position, name, length) == 0);
+}
+
+/* The first row that bears name k, plus 1, by a search of this program's own. */
+static uint64_t expected_row(const struct set *s, size_t k)
+{
+    uint64_t position = s->names[2 * k];
+    uint64_t length = s->names[2 * k + 1];
+    size_t i;
+
+    if (!lies(position, length, s->text_bytes)) {
+        return 0;
+    }
+    for (i = 0; i < s->rows; i++) {
+        const uint8_t *name = length == 0 ? NULL : s->text + position;
+
+        if (bears(s, s->table + i * DOWRINGAF_ROW_WORDS, name, length)) {
+            return i + 1;
+        }
+    }
+    return 0;
+}
+
+static uint64_t expected_refusal(const struct set *s)
+{
+    size_t names = s->name_words / 2;
+
+    if (names > DOWRINGAF_MOST_NAMES || names > s->lent) {
+        return DOWRINGAF_NAMES;
+    }
+    return s->words / DOWRINGAF_ROW_WORDS < s->rows ? DOWRINGAF_TABLE : 0;
+}
+
+/* What the single lookup says of name k, which lies in the text. */
+static void single_is(const struct set *s, size_t k, uint64_t answer)
+{
+    uint8_t *name = copy(s->names[2 * k + 1] == 0 ? NULL : s->text + s->names[2 * k],
+                         s->names[2 * k + 1]);
+    dowringaf_found one = dowringaf_lookup(s->file, s->bytes, s->table, s->words, s->rows, name,
+                                           s->names[2 * k + 1]);
+
+    IS(one.refused, 0);
+    IS(one.found == 0 ? 0 : one.row + 1, answer);
+    free(name);
+}
+
+/* What a set leaves in answers that held ones. */
+static uint64_t *answers_of(const struct set *s, uint64_t refused)
+{
+    uint64_t *answers = ones(s->lent);
+
+    IS(dowringaf_lookup_names(s->file, s->bytes, s->table, s->words, s->rows, s->text,
+                              s->text_bytes, s->names, s->name_words, answers, s->lent),
+       refused);
+    return answers;
+}
+
+/* A whole set: what it yields, every answer lent, and each beside the single lookup's. */
+static void set_is(const struct set *s)
+{
+    uint64_t refused = expected_refusal(s);
+    uint64_t *answers = answers_of(s, refused);
+    size_t k;
+
+    for (k = 0; k < s->lent; k++) {
+        int is_name = refused == 0 && k < s->name_words / 2;
+
+        IS(answers[k], is_name ? expected_row(s, k) : 0);
+        if (is_name && lies(s->names[2 * k], s->names[2 * k + 1], s->text_bytes)) {
+            single_is(s, k, answers[k]);
+        }
+    }
+    free(answers);
+}
+
+/* The same with the answers written down. */
+static void answers_are(const struct set *s, uint64_t refused, const uint64_t *expected)
+{
+    uint64_t *answers = answers_of(s, refused);
+    size_t k;
+
+    for (k = 0; k < s->lent; k++) {
+        IS(answers[k], expected == NULL ? 0 : expected[k]);
+    }
+    free(answers);
+    set_is(s);
+}
+
+enum { NAMED_ROWS = 4 };
+
+/* A row of a table, with the name at a place. */
+static void name_row(uint64_t *row, uint64_t type, uint64_t position, uint64_t length)
+{
+    memset(row, 0, DOWRINGAF_ROW_WORDS * sizeof *row);
+    row[DOWRINGAF_ROW_TYPE] = type;
+    row[DOWRINGAF_ROW_NAME] = 1;
+    row[DOWRINGAF_ROW_NAME_POSITION] = position;
+    row[DOWRINGAF_ROW_NAME_LENGTH] = length;
+}
+
+/* Rows with the names Title and Comment, one of another type, and Title again. */
+static struct set some_names(uint64_t table[NAMED_ROWS * DOWRINGAF_ROW_WORDS])
+{
+    static const uint8_t file[] = "TitleCommentTitle";
+    struct set s;
+
+    name_row(table, 12, 0, 5);
+    name_row(table + DOWRINGAF_ROW_WORDS, 12, 5, 7);
+    name_row(table + 2 * DOWRINGAF_ROW_WORDS, 13, 5, 7);
+    name_row(table + 3 * DOWRINGAF_ROW_WORDS, 12, 12, 5);
+    memset(&s, 0, sizeof s);
+    s.file = file;
+    s.bytes = sizeof file - 1;
+    s.table = table;
+    s.words = NAMED_ROWS * DOWRINGAF_ROW_WORDS;
+    s.rows = NAMED_ROWS;
+    return s;
+}
+
+/*
+ * Names that are found, in an order that is not the rows', and others: twice the same, overlapping,
+ * one byte short or long, at the text's end and past it, and with a sum of 2^64 and more.
+ */
+static void test_some_names(void)
+{
+    static const uint8_t text[] = "CommentTitleX";
+    static const uint64_t names[] = {0, 7, 7, 5, 0, 7, 7, 6, 7, 4, 13, 0, 14, 0, 12, 2,
+                                     UINT64_MAX, 6, 7, UINT64_MAX - 1, 8, UINT64_MAX, 99};
+    static const uint64_t expected[] = {2, 1, 2, 0, 0, 0, 0, 0, 0, 0, 0, 0, 0};
+    uint64_t table[NAMED_ROWS * DOWRINGAF_ROW_WORDS];
+    struct set s = some_names(table);
+
+    s.text = text;
+    s.text_bytes = sizeof text - 1;
+    s.names = names;
+    s.name_words = sizeof names / sizeof names[0];
+    s.lent = sizeof expected / sizeof expected[0];
+    answers_are(&s, 0, expected);
+    s.lent = 11;
+    answers_are(&s, 0, expected);
+    s.lent = 10;
+    answers_are(&s, DOWRINGAF_NAMES, NULL);
+    s.rows = NAMED_ROWS + 1;
+    answers_are(&s, DOWRINGAF_NAMES, NULL);
+    s.lent = 11;
+    answers_are(&s, DOWRINGAF_TABLE, NULL);
+}
+
+/* An empty name is found where a row bears one, at the text's very end too, but not past it. */
+static void test_empty_names(void)
+{
+    static const uint64_t names[] = {0, 0, 3, 0, 4, 0};
+    static const uint64_t expected[] = {3, 3, 0};
+    uint64_t table[NAMED_ROWS * DOWRINGAF_ROW_WORDS];
+    struct set s = some_names(table);
+
+    name_row(table + 2 * DOWRINGAF_ROW_WORDS, 12, s.bytes, 0);
+    s.text = (const uint8_t *)"abc";
+    s.text_bytes = 3;
+    s.names = names;
+    s.name_words = 6;
+    s.lent = 3;
+    answers_are(&s, 0, expected);
+    name_row(table + 2 * DOWRINGAF_ROW_WORDS, 12, s.bytes + 1, 0);
+    answers_are(&s, 0, NULL);
+}
+
+/* 32 names and 33, with more answers and without any; and no name, which the rows still refuse. */
+static void test_many_names(void)
+{
+    uint64_t names[2 * (DOWRINGAF_MOST_NAMES + 1)];
+    uint64_t expected[DOWRINGAF_MOST_NAMES];
+    uint64_t table[NAMED_ROWS * DOWRINGAF_ROW_WORDS];
+    struct set s = some_names(table);
+    size_t k;
+
+    for (k = 0; k <= DOWRINGAF_MOST_NAMES; k++) {
+        names[2 * k] = 0;
+        names[2 * k + 1] = 5;
+    }
+    for (k = 0; k < DOWRINGAF_MOST_NAMES; k++) {
+        expected[k] = 1;
+    }
+    s.text = (const uint8_t *)"Title";
+    s.text_bytes = 5;
+    s.names = names;
+    s.name_words = 2 * DOWRINGAF_MOST_NAMES;
+    s.lent = DOWRINGAF_MOST_NAMES;
+    answers_are(&s, 0, expected);
+    s.name_words++;
+    answers_are(&s, 0, expected);
+    s.name_words++;
+    s.lent = 100;
+    answers_are(&s, DOWRINGAF_NAMES, NULL);
+    s.name_words = 2;
+    s.lent = 0;
+    answers_are(&s, DOWRINGAF_NAMES, NULL);
+    s.name_words = 1;
+    answers_are(&s, 0, NULL);
+    s.rows = NAMED_ROWS + 1;
+    answers_are(&s, DOWRINGAF_TABLE, NULL);
+    memset(&s, 0, sizeof s);
+    answers_are(&s, 0, NULL);
+    s.rows = 1;
+    s.lent = 3;
+    answers_are(&s, DOWRINGAF_TABLE, NULL);
+}
+
+/* Numbers that look like any, and are the same in every run. */
+static uint64_t next_random(uint64_t *state, uint64_t below)
+{
+    *state = *state * 6364136223846793005u + 1442695040888963407u;
+    return (*state >> 33) % below;
+}
+
+/* A place near a length's end, mostly within it. */
+static void put_place(uint64_t *state, uint64_t *place, size_t bytes)
+{
+    place[0] = next_random(state, bytes + 2);
+    place[1] = next_random(state, 4);
+    if (next_random(state, 64) == 0) {
+        place[next_random(state, 2)] = UINT64_MAX - next_random(state, 8);
+    }
+}
+
+enum { RANDOM_ROWS = 9, RANDOM_NAMES = 36, LETTERS = 12, RANDOM_SETS = 20000 };
+
+/* Letters a and b, in a block of their number. */
+static uint8_t *random_letters(uint64_t *state, size_t bytes)
+{
+    uint8_t *letters = block(bytes, 1);
+    size_t i;
+
+    for (i = 0; i < bytes; i++) {
+        letters[i] = (uint8_t)('a' + next_random(state, 2));
+    }
+    return letters;
+}
+
+/* A file, and rows over it, most of them attributes with a name; and how many rows are told. */
+static void put_random_table(uint64_t *state, struct set *s)
+{
+    size_t rows = next_random(state, RANDOM_ROWS + 1);
+    uint64_t *table;
+    size_t i;
+
+    s->bytes = next_random(state, LETTERS + 1);
+    s->file = random_letters(state, s->bytes);
+    s->words = rows * DOWRINGAF_ROW_WORDS + next_random(state, DOWRINGAF_ROW_WORDS);
+    s->table = table = ones(s->words);
+    for (i = 0; i < rows; i++) {
+        uint64_t *row = table + i * DOWRINGAF_ROW_WORDS;
+
+        name_row(row, next_random(state, 8) == 0 ? 1 : 12, 0, 0);
+        put_place(state, row + DOWRINGAF_ROW_NAME_POSITION, s->bytes);
+        row[DOWRINGAF_ROW_NAME] = next_random(state, 8) == 0 ? next_random(state, 4) : 1;
+    }
+    s->rows = next_random(state, 8) == 0 ? next_random(state, rows + 2) : rows;
+}
+
+/* A text, and names in it, few or some of the most; and how many answers are lent. */
+static void put_random_names(uint64_t *state, struct set *s)
+{
+    size_t names = next_random(state, next_random(state, 8) == 0 ? RANDOM_NAMES + 1 : 8);
+    uint64_t *places;
+    size_t k;
+
+    s->name_words = 2 * names + next_random(state, 2);
+    s->names = places = ones(s->name_words);
+    s->text_bytes = next_random(state, LETTERS + 1);
+    s->text = random_letters(state, s->text_bytes);
+    for (k = 0; k < names; k++) {
+        put_place(state, places + 2 * k, s->text_bytes);
+    }
+    s->lent = next_random(state, 8) == 0 ? next_random(state, names + 1)
+                                         : names + next_random(state, 3);
+}
+
+/* Sets over tables, files and texts of two letters, so that names often occur. */
+static void test_random_names(void)
+{
+    uint64_t state = 209;
+    struct set s;
+    int i;
+
+    for (i = 0; i < RANDOM_SETS; i++) {
+        put_random_table(&state, &s);
+        put_random_names(&state, &s);
+        set_is(&s);
+        free((void *)s.file);
+        free((void *)s.table);
+        free((void *)s.text);
+        free((void *)s.names);
+    }
+}
+
+/* Many names in one call. */
+static void test_names(void)
+{
+    test_some_names();
+    test_empty_names();
+    test_many_names();
+    test_random_names();
+}
+
 static int write_file(const char *path, const struct writer *w)
 {
     FILE *stream = fopen(path, "wb");
@@ -3036,6 +3367,7 @@ int main(int count, char **words)
     test_listed_rows();
     test_constant();
     test_changed();
+    test_names();
     printf("%lu compared, %lu failed\n", compared, failed);
     return failed == 0 ? 0 : 1;
 }

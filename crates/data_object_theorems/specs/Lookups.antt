@@ -1,6 +1,6 @@
 -- A lookup in the table of a decoded header finds the first attribute of its reading that bears the name, since row i of the table is that of
 -- message i. Assumes nothing.
-use Prim.Native.Nat.{ℕ, zero, suc, _+_, _-_, _*_, _≤_, _<_}
+use Prim.Native.Nat.{ℕ, zero, suc, _+_, _-_, _*_, _/_, _≤_, _<_}
 use mathlib.Core.Path.{_≡_, refl, sym, ap, _∙_}
 use mathlib.Core.List.{List, [], _∷_, _++_, append-assoc, map}
 use native.Mathlib.Omega.{arith}
@@ -17,7 +17,9 @@ use Rattle.grammar.specs.Table.{messagesOf, rowsOf}
 use Rattle.data_object.specs.declared.DataObject.{DataObject}
 use Rattle.data_object.specs.Decoded.{Accepted}
 use Rattle.lookup.specs.Lookup.{Bears, Looked}
+use Rattle.lookup.specs.declared.LookupAnswer.{LookupAnswer}
 use Rattle.lookup.specs.declared.LookupAnswer.the-variants as answers
+use Rattle.lookup_names.specs.Names.{rowPlusOne, LookedAs}
 
 -- message i of a list
 abbrev pub MessageAt : List Message → ℕ → Message → Type 0
@@ -104,3 +106,20 @@ module _ (file : List ℕ) (offsets lengths end at n : ℕ) {next count : ℕ} {
       index [] i m h = absurd h
       index (x ∷ xs) zero m h = omega arith
       index (x ∷ xs) (suc i) m h = omega (arith, index xs i m h)
+
+  -- and each answer to many names is 1 more than the place of the first message that bears the name, or 0 where none does
+  pub name-first : (i : ℕ) → LookedAs file t (r .rows) name (i + 1) → FirstBearing file name (messagesOf (a .items)) i
+  name-first i w = go (w .answer) (w .looked) (w .same)
+    where
+      go : (x : LookupAnswer) → Looked file t (r .rows) name x → i + 1 ≡ rowPlusOne x → FirstBearing file name (messagesOf (a .items)) i
+      go (answers.At j) l e = let d : i ≡ j = omega arith in rw d (lookup-first j l)
+      go answers.Nothing l e = absurd (omega arith)
+      go (answers.Refused q) l e = absurd (omega arith)
+
+  pub name-nothing : r .rows ≤ length t / rowWords → LookedAs file t (r .rows) name 0 → (i : ℕ) (m : Message) → MessageAt (messagesOf (a .items)) i m → BearsName file name m → ⊥
+  name-nothing h w = go (w .answer) (w .looked) (w .same)
+    where
+      go : (x : LookupAnswer) → Looked file t (r .rows) name x → 0 ≡ rowPlusOne x → (i : ℕ) (m : Message) → MessageAt (messagesOf (a .items)) i m → BearsName file name m → ⊥
+      go (answers.At j) l e = absurd (omega arith)
+      go answers.Nothing l e = lookup-nothing l
+      go (answers.Refused q) l e = absurd (omega (arith, l .1))
