@@ -1,15 +1,15 @@
 -- IV.A.2.d, the datatype message, versions 1 and 3. Assumes nothing: these are definitions.
-use Prim.Native.Nat.{ℕ, zero, suc, _+_, _/_, _%_}
+use Prim.Native.Nat.{ℕ, zero, suc, _/_, _%_}
 use mathlib.Core.Bool.{Bool, _&&_, _||_}
 use lib.Dec.{eqb, ltb}
-use Rattle.format.specs.Bytes.{toMultipleOf8}
-use Rattle.format.specs.Format.{Format, done, refuse, number, skip, name, bind, times, check, pick, nothing}
+use Rattle.format.specs.Format.{Format, done, refuse, number, bind, times, check, pick, nothing}
 use Rattle.records.specs.declared.OptionU32.{OptionU32}
 use Rattle.records.specs.declared.OptionU32.the-variants as options32
 use Rattle.records.specs.declared.DataFormat.the-variants as formats
 use Rattle.records.specs.declared.OptionDataFormat.{OptionDataFormat}
 use Rattle.records.specs.declared.OptionDataFormat.the-variants as optionFormats
 use Rattle.records.specs.declared.DataType.{DataType}
+use Rattle.ohdr_member.specs.Members.{memberFields}
 use Rattle.ohdr_datatype.specs.declared.DataTypeHeader.{DataTypeHeader}
 use Rattle.ohdr_datatype.specs.declared.FloatProperties.{FloatProperties}
 
@@ -91,35 +91,6 @@ floatFormat =
     done (optionFormats.Some (formats.Float
     (f .«bit_offset») (f .«bit_precision») (f .«exponent_location») (f .«exponent_size»)
     (f .«mantissa_location») (f .«mantissa_size») (f .«exponent_bias»)))))
-
--- a compound's member before its type, version 3: name, closing byte, and an offset of one byte in a compound whose size is not 0
-unfoldable pub member3 : ℕ → Format (Unit {0})
-member3 size =
-    name 4095 (λ _.
-    skip 1 (
-    pick (ltb 0 size) (number 1 (λ byte-offset-of-member. nothing)) nothing))
-
--- a compound's member before its type, version 1: name and closing byte, padded together to a multiple of 8; the bytes passed over behind the
--- dimensionality are reserved. Only a scalar member is read.
-unfoldable pub member1 : Format (Unit {0})
-member1 =
-    name 255 (λ length.
-    skip 1 (
-    skip (toMultipleOf8 (length + 1)) (
-    number 4 (λ byte-offset-of-member.
-    number 1 (λ dimensionality.
-    check (eqb dimensionality 0) 11 (
-    skip 3 (
-    number 4 (λ dimension-permutation.
-    skip 4 (
-    number 4 (λ dimension-1-size.
-    number 4 (λ dimension-2-size.
-    number 4 (λ dimension-3-size.
-    number 4 (λ dimension-4-size.
-    nothing)))))))))))))
-
-unfoldable pub memberFields : ℕ → ℕ → Format (Unit {0})
-memberFields version size = pick (eqb version 3) (member3 size) member1
 
 -- a member, where T is the format of its type
 unfoldable pub member : ℕ → ℕ → Format DataType → Format (Unit {0})

@@ -11,8 +11,8 @@ use borrow.Author.Tests.{eqb-true, eqb-false, lt-ltb}
 use Rattle.format.specs.Bytes.{le, Named}
 use Rattle.format.specs.BytesLaws.{by-le}
 use Rattle.format.specs.Format.{Format, skip, name, Stands, bind}
-use Rattle.ohdr_datatype.specs.DataTypes.{memberFields}
-use Rattle.ohdr_datatype.specs.DataTypes as ours
+use Rattle.ohdr_member.specs.Members.{memberFields}
+use Rattle.ohdr_member.specs.Members as ours
 use Rattle.standard.specs.Fields.{Bytes}
 use Rattle.standard.specs.Tie.{Stood, Tied, TiedBut, onward, tied-done, tied-number, tied-skip-number, tied-check}
 use Rattle.standard.specs.TieMore.{but-map}

@@ -14,11 +14,13 @@ use Rattle.format.specs.Standing.{stands-bind, stands-check, bind-stands}
 use Rattle.records.specs.declared.OptionDataFormat.{OptionDataFormat}
 use Rattle.records.specs.declared.OptionDataFormat.the-variants as optionFormats
 use Rattle.records.specs.declared.DataType.{DataType}
+use Rattle.ohdr_member.specs.Members.{memberFields}
+use Rattle.ohdr_member.specs.Members as fields
+use Rattle.ohdr_member.specs.Facts.{unused1}
 use Rattle.ohdr_datatype.specs.declared.DataTypeHeader.{DataTypeHeader}
 use Rattle.ohdr_datatype.specs.declared.FloatProperties.{FloatProperties}
-use Rattle.ohdr_datatype.specs.DataTypes.{knownClass, knownType, dataTypeHeader, fixedProperties, floatProperties, floatIs, ieee, floatFormat, memberFields, plain, listProperties, typeLayer, dataType}
+use Rattle.ohdr_datatype.specs.DataTypes.{knownClass, knownType, dataTypeHeader, fixedProperties, floatProperties, floatIs, ieee, floatFormat, plain, listProperties, typeLayer, dataType}
 use Rattle.ohdr_datatype.specs.DataTypes as ours
-use Rattle.ohdr_datatype.specs.Facts.{unused1}
 use Rattle.standard.specs.Fields.{Bytes}
 use Rattle.standard.specs.Versions.{marked}
 use Rattle.standard.specs.Datatypes.{DatatypeHeader, datatypeHeader, class, version, fixedPoint, FloatingPoint, floatingPoint, terminated, Member1, member1, Member3, member3, Member, version-1, version-3, member, memberCount, Datatype, datatype, headerOf, Properties, fixed-point, floating-point, no-properties, members, parent-type, Members, more-members, membersOf, compound, properties, datatypeOf, datatypeMessage}
@@ -68,8 +70,8 @@ module _ (s : List ℕ) (longest : ℕ) where
   abbrev rest1 : ℕ → Format (Unit {0})
   rest1 length = skip (toMultipleOf8 (length + 1)) (number 4 (λ byte-offset-of-member. number 1 (λ dimensionality. check (eqb dimensionality 0) 11 unused1)))
 
-  member1-read : (p q : ℕ) (x : Member1) → Stands s (member1 longest) p q x → x .name .length ≤ 255 → x .dimensionality ≡ 0 → Stands s ours.member1 p q tt
-  unfolding member1 ours.member1
+  member1-read : (p q : ℕ) (x : Member1) → Stands s (member1 longest) p q x → x .name .length ≤ 255 → x .dimensionality ≡ 0 → Stands s fields.member1 p q tt
+  unfolding member1 fields.member1
   member1-read p q x h l d =
       let b = stands-bind s (terminated longest) _ p q x h in
       let c = b .3 in
@@ -80,8 +82,8 @@ module _ (s : List ℕ) (longest : ℕ) where
       name-read 255 rest1 p (b .0) q (b .1) (b .2) (rw e at l)
       (c .0, (c .1 .0, (c .1 .1 .0, rw z (f .0, (f .1 .0, (f .1 .1 .0, (f .1 .1 .1 .0, (f .1 .1 .1 .1 .0, (f .1 .1 .1 .1 .1 .0, (f .1 .1 .1 .1 .1 .1 .0, (g .0, refl)))))))))))
 
-  member3-read : (size p q : ℕ) (x : Member3) → Stands s (member3 longest size) p q x → x .name .length ≤ 4095 → 0 < size → size < 256 → Stands s (ours.member3 size) p q tt
-  unfolding member3 ours.member3
+  member3-read : (size p q : ℕ) (x : Member3) → Stands s (member3 longest size) p q x → x .name .length ≤ 4095 → 0 < size → size < 256 → Stands s (fields.member3 size) p q tt
+  unfolding member3 fields.member3
   member3-read size p q x h l n u =
       let i = rw (lt-ltb size 256 u) at h in
       let b = stands-bind s (terminated longest) _ p q x i in

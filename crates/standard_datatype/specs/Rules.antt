@@ -6,7 +6,9 @@ use mathlib.Core.List.{[], _∷_, _++_}
 use native.Mathlib.Omega.{arith}
 use Rattle.format.specs.Bytes.{le, nameLength}
 use Rattle.format.specs.Format.{read, bind, times}
-use Rattle.ohdr_datatype.specs.DataTypes.{knownClass, knownType, dataTypeHeader, fixedProperties, floatProperties, floatIs, ieee, floatFormat, memberFields, plain, listProperties, typeLayer, dataType}
+use Rattle.ohdr_member.specs.Members.{memberFields}
+use Rattle.ohdr_member.specs.Members as fields
+use Rattle.ohdr_datatype.specs.DataTypes.{knownClass, knownType, dataTypeHeader, fixedProperties, floatProperties, floatIs, ieee, floatFormat, plain, listProperties, typeLayer, dataType}
 use Rattle.ohdr_datatype.specs.DataTypes as ours
 use Rattle.standard.specs.Untested.{Untested}
 use Rattle.standard.specs.Versions.{marked}
@@ -80,7 +82,7 @@ parent-type-untested =
 
 -- 36: a compound of one byte with a member of 4 bytes
 pub members-untested : NotTested ValidMembers
-unfolding read bind times le nameLength marked datatypeHeader terminated member3 member membersOf compound properties datatypeOf datatypeMessage knownClass knownType dataTypeHeader memberFields ours.member3 ours.member plain ours.properties typeLayer dataType
+unfolding read bind times le nameLength marked datatypeHeader terminated member3 member membersOf compound properties datatypeOf datatypeMessage knownClass knownType dataTypeHeader memberFields fields.member3 ours.member plain ours.properties typeLayer dataType
 members-untested =
     record {
       file = (0x36 ∷ 1 ∷ 0 ∷ 0 ∷ 1 ∷ 0 ∷ 0 ∷ 0 ∷ []) ++ (0x6E ∷ 0 ∷ 0 ∷ []) ++ string4;
@@ -93,7 +95,7 @@ members-untested =
 
 -- 108: padding of the name, reserved bytes, permutation and the other reserved bytes of a version 1 member, each once other than zero
 pub members-of-version-1-untested : NotTested ValidMembers1 × NotTested ValidMembers1 × NotTested ValidMembers1 × NotTested ValidMembers1
-unfolding read bind times le nameLength marked datatypeHeader terminated member1 member membersOf compound properties datatypeOf datatypeMessage knownClass knownType dataTypeHeader memberFields ours.member1 ours.member plain ours.properties typeLayer dataType
+unfolding read bind times le nameLength marked datatypeHeader terminated member1 member membersOf compound properties datatypeOf datatypeMessage knownClass knownType dataTypeHeader memberFields fields.member1 ours.member plain ours.properties typeLayer dataType
 members-of-version-1-untested = (
   record { file = compound1 (aMember1 1 0 0 0 0); end = 56; message = theCompound1 (aMember1 1 0 0 0 0); read-here = refl; standard = refl; broken = λ v. let e : _≡_ {A = ℕ} 1 0 = v .0 .0 .name-padding in omega arith },
   record { file = compound1 (aMember1 0 0 1 0 0); end = 56; message = theCompound1 (aMember1 0 0 1 0 0); read-here = refl; standard = refl; broken = λ v. let e : _≡_ {A = ℕ} 1 0 = v .0 .0 .reserved-after-dimensionality in omega arith },

@@ -7,7 +7,9 @@ use Rattle.format.specs.Bytes.{le, nameLength}
 use Rattle.format.specs.Format.{found, refused, read, bind, times}
 use Rattle.records.specs.declared.OptionU32.the-variants as options32
 use Rattle.records.specs.declared.OptionDataFormat.the-variants as optionFormats
-use Rattle.ohdr_datatype.specs.DataTypes.{knownClass, knownType, dataTypeHeader, memberFields, plain, typeLayer, dataType}
+use Rattle.ohdr_member.specs.Members.{memberFields}
+use Rattle.ohdr_member.specs.Members as fields
+use Rattle.ohdr_datatype.specs.DataTypes.{knownClass, knownType, dataTypeHeader, plain, typeLayer, dataType}
 use Rattle.ohdr_datatype.specs.DataTypes as ours
 use Rattle.standard.specs.Versions.{marked}
 use Rattle.standard.specs.Datatypes.{datatypeHeader, terminated, Member1, member1, member3, version-3, member, datatype, members, no-members, more-members, membersOf, compound, properties, datatypeOf, datatypeMessage}
@@ -29,7 +31,7 @@ compound1-read = (refl, refl)
 -- the scalar is read over the same bytes; 38: the array is refused
 pub compound1-here : (read (compound1 scalar) (dataType 32) 0 ≡ found (record { «class_and_version» = 0x16; «class_bit_field» = 1; size = 60; «list_size» = options32.None; «data_fmt» = optionFormats.None }) 56)
     × (read (compound1 array) (dataType 32) 0 ≡ refused 11)
-unfolding read bind times le nameLength knownClass knownType dataTypeHeader memberFields ours.member1 ours.member plain ours.properties typeLayer dataType
+unfolding read bind times le nameLength knownClass knownType dataTypeHeader memberFields fields.member1 ours.member plain ours.properties typeLayer dataType
 compound1-here = (refl, refl)
 
 -- what `datatype-is-read` asks is met by the scalar
@@ -52,5 +54,5 @@ compound0-read = refl
 
 -- 35: the same bytes are refused
 pub compound0-refused : read compound0 (dataType 32) 0 ≡ refused 11
-unfolding read bind times le nameLength knownClass knownType dataTypeHeader memberFields ours.member3 ours.member plain ours.properties typeLayer dataType
+unfolding read bind times le nameLength knownClass knownType dataTypeHeader memberFields fields.member3 ours.member plain ours.properties typeLayer dataType
 compound0-refused = refl

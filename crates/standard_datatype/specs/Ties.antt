@@ -15,9 +15,10 @@ use Rattle.format.specs.Standing.{stands-bind, bind-stands}
 use Rattle.records.specs.declared.OptionDataFormat.{OptionDataFormat}
 use Rattle.records.specs.declared.OptionDataFormat.the-variants as optionFormats
 use Rattle.records.specs.declared.DataType.{DataType}
+use Rattle.ohdr_member.specs.Members.{memberFields}
 use Rattle.ohdr_datatype.specs.declared.DataTypeHeader.{DataTypeHeader}
 use Rattle.ohdr_datatype.specs.declared.FloatProperties.{FloatProperties}
-use Rattle.ohdr_datatype.specs.DataTypes.{classOf, versionOf, knownVersion, knownClass, knownType, dataTypeHeader, fixedProperties, floatProperties, floatIs, ieee, floatFormat, memberFields, plain, listProperties, typeLayer, dataType}
+use Rattle.ohdr_datatype.specs.DataTypes.{classOf, versionOf, knownVersion, knownClass, knownType, dataTypeHeader, fixedProperties, floatProperties, floatIs, ieee, floatFormat, plain, listProperties, typeLayer, dataType}
 use Rattle.ohdr_datatype.specs.DataTypes as ours
 use Rattle.standard.specs.Fields.{only}
 use Rattle.standard.specs.Tie.{Stood, Tied, TiedBut, tied-done, tied-number, tied-check, tied-bind, but-tied, but-more, Either, in-first, in-second, but-bind}

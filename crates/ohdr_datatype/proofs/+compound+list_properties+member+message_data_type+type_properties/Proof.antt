@@ -29,7 +29,7 @@ use Rattle.ohdr_datatype.proofs.data_type_header.Reads as data-type-hea
 use Rattle.ohdr_datatype.proofs.fixed_properties.Reads as fixed-properties-reads
 use Rattle.ohdr_datatype.proofs.float_format.Reads as float-format-reads
 use Rattle.ohdr_datatype.proofs.list_size.Reads as list-size-reads
-use Rattle.ohdr_datatype.proofs.member_fields.Reads as member-fields-reads
+use Rattle.ohdr_member.proofs.member_fields.Reads as member-fields-reads
 use Rattle.ohdr_datatype.proofs.+compound+list_properties+member+message_data_type+type_properties.{
   statement,
 }

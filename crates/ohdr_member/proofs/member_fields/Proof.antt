@@ -1,9 +1,9 @@
 -- The version chooses the fields, and what the call reads is the answer.
-use Rattle.ohdr_datatype.specs.DataTypes.{memberFields}
+use Rattle.ohdr_member.specs.Members.{memberFields}
 use borrow.Author.Tests.{eq-eqb, ne-eqb}
 use borrow.Author.Needs.{needs}
-use Rattle.ohdr_datatype.proofs.member_fields.Statement.{statement}
-use Rattle.ohdr_datatype.proofs.member_fields.Tie as tie
+use Rattle.ohdr_member.proofs.member_fields.Statement.{statement}
+use Rattle.ohdr_member.proofs.member_fields.Tie as tie
 
 member-3-requires : tie.Need-member-3-requires
 member-3-requires c κs = search needs

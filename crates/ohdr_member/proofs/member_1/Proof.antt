@@ -1,11 +1,11 @@
 -- The name, its padding and the fields of a version 1 member are each one step of the format; the unused ones at the end are one step.
 use Rattle.format.specs.Steps.{read-done, read-refuse, read-number, read-skip, read-name}
-use Rattle.ohdr_datatype.specs.DataTypes.{member1}
-use Rattle.ohdr_datatype.specs.Facts.{padding, unused1-read}
+use Rattle.ohdr_member.specs.Members.{member1}
+use Rattle.ohdr_member.specs.Facts.{padding, unused1-read}
 use borrow.Author.Tests.{eq-eqb, ne-eqb}
 use borrow.Author.Needs.{needs}
-use Rattle.ohdr_datatype.proofs.member_1.Statement.{statement}
-use Rattle.ohdr_datatype.proofs.member_1.Tie as tie
+use Rattle.ohdr_member.proofs.member_1.Statement.{statement}
+use Rattle.ohdr_member.proofs.member_1.Tie as tie
 
 take-till-requires : tie.Need-take-till-requires
 take-till-requires c κs = search needs

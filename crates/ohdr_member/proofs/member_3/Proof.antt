@@ -1,10 +1,10 @@
 -- The name, its closing zero and the offset of a version 3 member are each one step of the format.
 use Rattle.format.specs.Steps.{read-done, read-number, read-skip, read-name}
-use Rattle.ohdr_datatype.specs.DataTypes.{member3}
+use Rattle.ohdr_member.specs.Members.{member3}
 use borrow.Author.Tests.{lt-ltb, le-ltb}
 use borrow.Author.Needs.{needs}
-use Rattle.ohdr_datatype.proofs.member_3.Statement.{statement}
-use Rattle.ohdr_datatype.proofs.member_3.Tie as tie
+use Rattle.ohdr_member.proofs.member_3.Statement.{statement}
+use Rattle.ohdr_member.proofs.member_3.Tie as tie
 
 take-till-requires : tie.Need-take-till-requires
 take-till-requires c κs = search needs
