@@ -384,7 +384,8 @@ dowringaf_found dowringaf_lookup(const uint8_t *file, size_t file_bytes, const u
  * its bytes, so that the first row is 1, or 0 where it finds none. A name that leaves the text has
  * 0 too: one whose position plus length, as a true sum, is more than text_bytes. An empty name at
  * the text's very end does not leave it. The answers behind those of the names are 0. What stood in
- * the answers before makes no difference.
+ * the answers before makes no difference. The rows are passed once for each name, up to the one
+ * that is found.
  *
  * Yields 0, or why all answers are 0: DOWRINGAF_NAMES where there are more names than
  * DOWRINGAF_MOST_NAMES or than answers, and then DOWRINGAF_TABLE for more rows than the table has,

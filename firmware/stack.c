@@ -1,10 +1,9 @@
 /*
  * How much stack the calls use at the deepest: in the header of a file's root 25 levels of blocks,
- * and in the last of them a type of 32 levels; and the lookup of 32 names in its table, which does
- * not depend on what they are. The proofs say nothing of the stack. Each call runs
- * in a thread whose stack is filled with a pattern before, so that it shows how far it was written;
- * what a thread that calls nothing writes is taken off. Fails where a call uses more than
- * dowringaf.h says.
+ * and in the last of them a type of 32 levels; and the lookup of 32 names in its table, whatever
+ * they are. The proofs say nothing of the stack. Each call runs in a thread whose stack is filled
+ * with a pattern before, so that it shows how far it was written; what a thread that calls nothing
+ * writes is taken off. Fails where a call uses more than dowringaf.h says.
  */
 #define _POSIX_C_SOURCE 200809L
 
