@@ -14,7 +14,7 @@ use Rattle.parser.specs.declared.State.{State}
 use Rattle.number_form.specs.declared.OptionForm.{OptionForm}
 use Rattle.number_form.specs.declared.OptionForm.the-variants as options
 use Rattle.number_form.specs.Forms.{numberForm}
-use Rattle.number.specs.Values.{numberValue}
+use Rattle.element_number.specs.Values.{numberValue}
 use Rattle.ohdr_attribute.specs.declared.AttributeFields.{AttributeFields}
 use Rattle.ohdr_datatype.specs.DataTypes.{classOf, dataType, typeLevels}
 use Rattle.ohdr_dataspace.specs.DataSpaces.{dataSpace}

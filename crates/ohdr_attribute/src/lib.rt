@@ -1,6 +1,8 @@
 // The attribute message (ohdr_message.rs, message_attribute): a name, and the value of a text or of a
 // number.
 use element_count::times;
+use element_number::NumberRead;
+use element_number::number_value;
 use helpers::Place;
 use helpers::ReadLength;
 use helpers::ReadU8;
@@ -11,8 +13,6 @@ use helpers::le_u16;
 use helpers::take;
 use helpers::to_multiple_of_8;
 use helpers::trim_end;
-use number::NumberRead;
-use number::number_value;
 use number_form::OptionForm;
 use number_form::number_form;
 use ohdr_dataspace::message_data_space;

@@ -1,5 +1,7 @@
 // An entry of an object header by itself (ohdr_message.rs, message_entry and message_kind): its
 // prefix, its body by its type, and the rest of its size.
+use element_number::number_bits;
+use element_number::number_case;
 use helpers::Place;
 use helpers::ReadAddress;
 use helpers::ReadU8;
@@ -11,8 +13,6 @@ use helpers::le_u8;
 use helpers::le_u16;
 use helpers::take;
 use helpers::varint;
-use number::number_bits;
-use number::number_case;
 use ohdr_attribute::AttributeRead;
 use ohdr_attribute::message_attribute;
 use ohdr_dataspace::message_data_space;

@@ -22,9 +22,9 @@ use Rattle.number_form.specs.declared.NumberForm.{NumberForm}
 use Rattle.number_form.specs.declared.OptionForm.{OptionForm}
 use Rattle.number_form.specs.declared.OptionForm.the-variants as options
 use Rattle.number_form.specs.Forms.{numberForm}
-use Rattle.number.specs.Values.{numberOf, numberValue}
+use Rattle.element_number.specs.Values.{numberOf, numberValue}
 use Rattle.number_form.specs.Sizes.{no-form}
-use Rattle.number.specs.Kept.{stored, number-room, number-stands}
+use Rattle.element_number.specs.Kept.{stored, number-room, number-stands}
 use Rattle.ohdr_datatype.specs.DataTypes.{dataType, typeLevels}
 use Rattle.ohdr_dataspace.specs.DataSpaces as spaces
 use Rattle.ohdr_attribute.specs.Attributes.{padding, textValue, listValue, otherValue, elementValue, value, spaceValue, typeSpaceValue}

@@ -25,10 +25,10 @@ use Rattle.number_form.specs.declared.NumberForm.the-variants as forms
 use Rattle.number_form.specs.declared.OptionForm.{OptionForm}
 use Rattle.number_form.specs.declared.OptionForm.the-variants as options
 use Rattle.number_form.specs.Forms.{isSigned, wholeSize, fixedForm, isFloat, floatForm, formOf, numberForm}
-use Rattle.number.specs.Values.{signedOf, numberOf}
+use Rattle.element_number.specs.Values.{signedOf, numberOf}
 use Rattle.number_form.specs.Sizes.{some-size, small-size, no-form}
 use Rattle.records.specs.Numbers.{numberBits}
-use Rattle.number.specs.Kept.{stored-below, twice-half, number-case, number-bits, IsFloat, single-value, double-value}
+use Rattle.element_number.specs.Kept.{stored-below, twice-half, number-case, number-bits, IsFloat, single-value, double-value}
 use Rattle.standard.specs.Datatypes.{DatatypeHeader, class, FixedPoint, FloatingPoint, Datatype, datatype, headerOf, Properties, fixed-point, floating-point, no-properties, members, parent-type}
 use Rattle.standard.specs.DatatypeRules.{bits}
 use Rattle.standard.specs.Numbers.{elementBits, exponent, mantissa}

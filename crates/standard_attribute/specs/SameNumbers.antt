@@ -10,7 +10,7 @@ use lib.Ieee.{binary32, binary64, ofFields, emax}
 use Rattle.records.specs.declared.Number.{Number}
 use Rattle.records.specs.declared.Number.the-variants as numbers
 use Rattle.records.specs.Numbers.{numberCase, numberBits}
-use Rattle.number.specs.Kept.{IsFloat}
+use Rattle.element_number.specs.Kept.{IsFloat}
 use Rattle.standard.specs.Datatypes.{DatatypeHeader, class, FixedPoint, FloatingPoint, Datatype, datatype, fixed-point, floating-point, no-properties, members, parent-type}
 use Rattle.standard.specs.DatatypeRules.{bits}
 use Rattle.standard.specs.Numbers.{elementBits, fixedPointValue, signBit, exponent, mantissa}

@@ -26,8 +26,8 @@ use Rattle.parser.specs.declared.State.{State}
 use Rattle.number_form.specs.declared.NumberForm.{NumberForm}
 use Rattle.number_form.specs.declared.OptionForm.the-variants as options
 use Rattle.number_form.specs.Forms.{numberForm}
-use Rattle.number.specs.Values.{numberOf, numberValue}
-use Rattle.number.specs.Kept.{stored, stands-number}
+use Rattle.element_number.specs.Values.{numberOf, numberValue}
+use Rattle.element_number.specs.Kept.{stored, stands-number}
 use Rattle.ohdr_datatype.specs.DataTypes.{classOf, dataType, typeLevels}
 use Rattle.standard_datatype.specs.Same.{SameHeader}
 use Rattle.ohdr_dataspace.specs.DataSpaces as spaces
