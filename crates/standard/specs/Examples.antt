@@ -200,7 +200,7 @@ unfolding read bind le raw optional many filterFields2 filterDescription2 pipeli
 a-second-filter-pipeline = refl
 
 -- a header whose first chunk has a continuation message, and whose block has a NIL message, each with its checksum
-abbrev continuedFile : List ℕ
+abbrev pub continuedFile : List ℕ
 continuedFile =
     0x4F ∷ 0x48 ∷ 0x44 ∷ 0x52 ∷ 2 ∷ 0 ∷ 8
     ∷ 16 ∷ 4 ∷ 0 ∷ 0 ∷ 19 ∷ 0 ∷ 12 ∷ 0
@@ -209,14 +209,14 @@ continuedFile =
     ∷ 0 ∷ 0 ∷ 0 ∷ 0
     ∷ 0xE7 ∷ 0x60 ∷ 0xC8 ∷ 0xC7 ∷ []
 
-abbrev plainMessage : ℕ → ℕ → ℕ → HeaderMessage
+abbrev pub plainMessage : ℕ → ℕ → ℕ → HeaderMessage
 plainMessage type position size =
     record {
       prefix = record { header-message-type = type; size-of-header-message-data = size; header-message-flags = 0; header-message-creation-order = absent };
       header-message-data = record { position = position; length = size };
     }
 
-pub a-whole-header : ObjectHeader continuedFile 2 2 0 (plainMessage 16 11 4 ∷ plainMessage 0 27 0 ∷ [])
+unfoldable pub a-whole-header : ObjectHeader continuedFile 2 2 0 (plainMessage 16 11 4 ∷ plainMessage 0 27 0 ∷ [])
 unfolding read bind le optional raw objectHeaderPrefix messagePrefix headerMessage address continuationMessage continuationSignature plus minus rotate mixLine mix finalLine finalMix addBlock blocks sumOf
 a-whole-header =
     record {

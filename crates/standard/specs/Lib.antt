@@ -1,5 +1,6 @@
 pub mod Fields
 pub mod Tie
+pub mod Converse
 pub mod TieMore
 pub mod Versions
 pub mod Untested

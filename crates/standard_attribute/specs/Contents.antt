@@ -37,7 +37,9 @@ use Rattle.standard.specs.DatatypeRules.{Each}
 use Rattle.standard_datatype.specs.Same.{ScalarMembers, SameType}
 use Rattle.standard_datatype.specs.Differences.{TypeDiffers}
 use Rattle.standard_datatype.specs.Ties.{datatype-tied}
-use Rattle.standard_messages.specs.Dataspaces.{SameDataspace, ElementsDiffer, elements-same, dataspace-tied}
+use Rattle.standard_messages.specs.Dataspaces.{elements-same, dataspace-tied}
+use Rattle.standard_messages.specs.Same.{SameDataspace}
+use Rattle.standard_messages.specs.Differences.{ElementsDiffer}
 use Rattle.standard_attribute.specs.Differences.{ContentsDiffer, in-datatype, other-datatype-size, other-dataspace-size, other-elements, variable-length-elements, long-data}
 use Rattle.standard_attribute.specs.SameNumbers.{HasNumber, SameNumber}
 use Rattle.standard_attribute.specs.NumberForms.{FormIs, form-has, form-said, number-formed, number-class, number-same}
@@ -53,7 +55,7 @@ padded-length s p m l n h i = by-le l n (λ a. by-le n l (λ b. omega arith) (λ
 
 module _ (s : List ℕ) where
   -- what stands as the value is the data field of n elements, or the two differ
-  data ValueTied (t : Datatype) (n p q : ℕ) (v : Value) : Type 0 where
+  pub data ValueTied (t : Datatype) (n p q : ℕ) (v : Value) : Type 0 where
     other-lists : class (headerOf t) ≡ 9 → (n ≡ 1 → ⊥) → ValueTied t n p q v
     too-long : (class (headerOf t) ≡ 3 → ⊥) → (class (headerOf t) ≡ 9 → ⊥) → 1048576 < n * headerOf t .size → ValueTied t n p q v
     same : p + n * headerOf t .size ≤ length s → p + n * headerOf t .size ≡ q → SameValue s v t n (record { position = p; length = n * headerOf t .size }) → ValueTied t n p q v
@@ -155,7 +157,7 @@ module _ (s : List ℕ) where
           go false e b f true g h = list-tied (eqb-true (class (headerOf t)) 9 g) h
           go false e b f false g h = plain (λ x _. eqb-false (class (headerOf t)) 3 e x) (eqb-false (class (headerOf t)) 9 g) (eqb n 1) refl h
 
-  value-tied : (u : DataType) (t : Datatype) → SameType u t → (n p q : ℕ) (v : Value) → p ≤ length s → Stands s (value u n) p q v → ValueTied t n p q v
+  pub value-tied : (u : DataType) (t : Datatype) → SameType u t → (n p q : ℕ) (v : Value) → p ≤ length s → Stands s (value u n) p q v → ValueTied t n p q v
   unfolding value
   value-tied u t i n p q v l h =
       value-by t n p q v l u i

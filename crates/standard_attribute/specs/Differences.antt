@@ -15,7 +15,7 @@ use Rattle.standard.specs.Datatypes.{class, Datatype, headerOf, datatypeMessage
 use Rattle.standard.specs.Dataspaces.{Dataspace, dataspaceMessage, elements}
 use Rattle.standard.specs.Attributes.{Sizes1, sizes1, Sizes3, sizes3, sized, Described, described, rawSize}
 use Rattle.standard_datatype.specs.Differences.{TypeDiffers}
-use Rattle.standard_messages.specs.Dataspaces.{ElementsDiffer}
+use Rattle.standard_messages.specs.Differences.{ElementsDiffer}
 
 -- over a file, the widths, and the longest name that is asked for
 module _ (s : List ℕ) (state : State) (longest : ℕ) where

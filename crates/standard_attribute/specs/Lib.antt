@@ -6,8 +6,8 @@ pub mod ReadValues
 pub mod Contents
 pub mod Ties
 pub mod Rules
-pub mod ReadSpaces
 pub mod ReadElements
 pub mod Values
+pub mod Accepts
 pub mod ValueSamples
 pub mod Samples

@@ -1,8 +1,7 @@
 -- When the data of an attribute message of the standard are handed out as a value, and what is then handed out. Each condition is named by the
 -- entry of docs/DIFFERENCES.md, part one, that it excludes. Assumes nothing: these are definitions.
-use Prim.Native.Nat.{ℕ, _-_, _*_, _^_, _≤_, _<_}
+use Prim.Native.Nat.{ℕ, _-_, _≤_, _<_}
 use mathlib.Core.Path.{_≡_}
-use mathlib.Core.Logic.{_⊎_}
 use mathlib.Core.List.{List}
 use Rattle.format.specs.Format.{Stands}
 use Rattle.records.specs.declared.Part.{Part}
@@ -12,48 +11,15 @@ use Rattle.records.specs.declared.Value.the-variants as values
 use Rattle.parser.specs.declared.State.{State}
 use Rattle.ohdr_attribute.specs.Attributes.{attribute}
 use Rattle.standard.specs.Fields.{Bytes}
-use Rattle.standard.specs.Tie.{Every}
 use Rattle.standard.specs.Datatypes.{class, headerOf}
-use Rattle.standard.specs.Dataspaces.{Stored, not-stored, stored, Dataspace, version-1, version-2, elements}
-use Rattle.standard.specs.Attributes.{Described, elementSize, Attribute, of-version-1, of-version-3}
-use Rattle.standard_datatype.specs.ReadTypes.{ReadFloat}
+use Rattle.standard.specs.DatatypeRules.{Each}
+use Rattle.standard.specs.Dataspaces.{elements}
+use Rattle.standard.specs.Attributes.{Described, elementSize, rawSize, Attribute, of-version-1, of-version-3}
+use Rattle.standard_datatype.specs.ReadTypes.{ReadFloat, ReadType}
 use Rattle.standard_datatype.specs.Same.{propertiesOf}
-use Rattle.standard_messages.specs.Dataspaces.{ElementsDiffer}
+use Rattle.standard_messages.specs.ReadMessages.{ReadSpace}
 use Rattle.standard_attribute.specs.SameNumbers.{HasNumber, SameNumber}
 use Rattle.standard_attribute.specs.Same.{Less, SameName}
-
--- fields of a dataspace of either version
-abbrev pub dimensionalityOf : Dataspace → ℕ
-dimensionalityOf (version-1 x) = x .dimensionality
-dimensionalityOf (version-2 x) = x .dimensionality
-
-abbrev pub sizesOf : Dataspace → List ℕ
-sizesOf (version-1 x) = x .dimension-size
-sizesOf (version-2 x) = x .dimension-size
-
-abbrev pub maximumSizesOf : Dataspace → Stored
-maximumSizesOf (version-1 x) = x .dimension-maximum-size
-maximumSizesOf (version-2 x) = x .dimension-maximum-size
-
-abbrev pub permutationOf : Dataspace → Stored
-permutationOf (version-1 x) = x .permutation-index
-permutationOf (version-2 x) = not-stored
-
--- numbers that are stored, and P holds of each
-abbrev pub EachStored : (ℕ → Type 0) → Stored → Type 0
-EachStored P not-stored = Unit {0}
-EachStored P (stored ns) = Every P ns
-
--- a dataspace that is not refused, with lengths of w bytes
-pub record ReadSpace (w : ℕ) (x : Dataspace) : Type 0 where
-  -- 19: at most four sizes
-  pub few : dimensionalityOf x ≤ 4
-  -- 20: sizes up to 1,000,000
-  pub sizes : Every (λ n. n ≤ 1000000) (sizesOf x)
-  -- 21: maximum sizes up to 1,000,000, or all ones
-  pub maximum-sizes : EachStored (λ n. (n ≤ 1000000) ⊎ (n ≡ 2 ^ (8 * w) - 1)) (maximumSizesOf x)
-  -- 24: no permutation indices
-  pub no-permutation : permutationOf x ≡ not-stored
 
 -- fields of an attribute of either version
 abbrev pub nameSizeOf : Attribute → ℕ
@@ -80,10 +46,8 @@ pub record TextDescribed (w : ℕ) (x : Described) : Type 0 where
   pub some-size : 0 < elementSize (x .datatype)
   -- 30: sizes below 64
   pub small-size : elementSize (x .datatype) < 64
-  -- 19, 20, 21 and 24
+  -- 19, 20, 21, 24 and 26
   pub dataspace : ReadSpace w (x .dataspace)
-  -- 26: no scalar dataspace with sizes
-  pub elements : ElementsDiffer (x .dataspace) → ⊥
 
 -- Datatype and dataspace of a number that is read, of which the same is in the standard's format
 pub record NumberDescribed (w : ℕ) (x : Described) : Type 0 where
@@ -92,10 +56,19 @@ pub record NumberDescribed (w : ℕ) (x : Described) : Type 0 where
   pub one : elements (x .dataspace) ≡ 1
   -- 31: two float formats
   pub float : ReadFloat (propertiesOf (x .datatype))
-  -- 19, 20, 21 and 24
+  -- 19, 20, 21, 24 and 26
   pub dataspace : ReadSpace w (x .dataspace)
-  -- 26
-  pub elements-same : ElementsDiffer (x .dataspace) → ⊥
+
+-- Datatype and dataspace of which the data are read, whatever their class: handed out as a text or a number, or passed over
+pub record ReadDescribed (w : ℕ) (x : Described) : Type 0 where
+  -- 30, 31, 34, 35 and 38, of the datatype and of all inside it
+  pub datatype : Each ReadType (x .datatype)
+  -- 19, 20, 21, 24 and 26
+  pub dataspace : ReadSpace w (x .dataspace)
+  -- 60: of variable length one element, of at most 12 bytes
+  pub variable-length : class (headerOf (x .datatype)) ≡ 9 → (elements (x .dataspace) ≡ 1) × (elementSize (x .datatype) ≤ 12)
+  -- 61: at most 1,048,576 bytes of other classes
+  pub short : (class (headerOf (x .datatype)) ≡ 3 → ⊥) → rawSize x ≤ 1048576
 
 -- An attribute whose data are handed out, described as D says. That it is of version 1 or 3 (48), without a shared datatype or dataspace (50), is in
 -- the standard's format. Entry 56, a datatype, dataspace or data that have no reading, is no condition: it is what these exclude.

@@ -19,7 +19,7 @@ use Rattle.standard.specs.Datatypes.{datatypeHeader, datatype, fixedPoint, fixe
 use Rattle.standard.specs.Dataspaces.{not-stored, stored, storedSizes, dataspace1, dataspace2, version-1, version-2, dataspaceMessage, product}
 use Rattle.standard.specs.Attributes.{sizes1, sizes3, sized, described, Attribute, of-version-1, of-version-3, attribute1, attribute3, attributeMessage}
 use Rattle.standard_datatype.specs.ReadTypes.{single}
-use Rattle.standard_messages.specs.Dataspaces.{ElementsDiffer, scalar-with-sizes}
+use Rattle.standard_messages.specs.Differences.{ElementsDiffer, scalar-with-sizes}
 use Rattle.standard_attribute.specs.ReadValues.{describedOf, TextValue, TextIs, NumberValue, NumberIs, ValueStands}
 use Rattle.standard_attribute.specs.Values.{text-value, number-value}
 
@@ -56,8 +56,7 @@ met1 =
         string = refl;
         some-size = omega arith;
         small-size = omega arith;
-        dataspace = record { few = omega arith; sizes = tt; maximum-sizes = tt; no-permutation = refl };
-        elements = simple;
+        dataspace = record { few = omega arith; sizes = tt; maximum-sizes = tt; no-permutation = refl; no-scalar-with-sizes = simple };
       };
     }
   where
@@ -96,8 +95,7 @@ met3 =
         string = refl;
         some-size = omega arith;
         small-size = omega arith;
-        dataspace = record { few = omega arith; sizes = (omega arith, tt); maximum-sizes = (inr refl, tt); no-permutation = refl };
-        elements = simple;
+        dataspace = record { few = omega arith; sizes = (omega arith, tt); maximum-sizes = (inr refl, tt); no-permutation = refl; no-scalar-with-sizes = simple };
       };
     }
   where
@@ -136,8 +134,7 @@ met-null =
         string = refl;
         some-size = omega arith;
         small-size = omega arith;
-        dataspace = record { few = omega arith; sizes = (omega arith, tt); maximum-sizes = tt; no-permutation = refl };
-        elements = no-scalar;
+        dataspace = record { few = omega arith; sizes = (omega arith, tt); maximum-sizes = tt; no-permutation = refl; no-scalar-with-sizes = no-scalar };
       };
     }
   where
@@ -189,8 +186,7 @@ met-single =
         number = inl (record { of-class = refl; size = refl; bit-precision = refl; byte-order = refl; mantissa-normalization = refl; sign-location = refl });
         one = refl;
         float = inl refl;
-        dataspace = record { few = omega arith; sizes = tt; maximum-sizes = tt; no-permutation = refl };
-        elements-same = simple;
+        dataspace = record { few = omega arith; sizes = tt; maximum-sizes = tt; no-permutation = refl; no-scalar-with-sizes = simple };
       };
     }
   where
@@ -230,8 +226,7 @@ met-signed =
         number = record { of-class = refl; size = inr (inl refl); bit-offset = refl; bit-precision = refl };
         one = refl;
         float = tt;
-        dataspace = record { few = omega arith; sizes = (omega arith, tt); maximum-sizes = tt; no-permutation = refl };
-        elements-same = simple;
+        dataspace = record { few = omega arith; sizes = (omega arith, tt); maximum-sizes = tt; no-permutation = refl; no-scalar-with-sizes = simple };
       };
     }
   where

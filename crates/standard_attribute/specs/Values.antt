@@ -1,12 +1,12 @@
 -- Wherever an attribute message of the standard stands with a text or a number, and no listed difference applies, the attribute that is read stands
 -- over the same bytes, with the text or the number as its value. Assumes nothing.
-use Prim.Native.Nat.{ℕ, _+_, _-_, _*_, _≤_, _<_}
+use Prim.Native.Nat.{ℕ, _+_, _-_, _*_, _%_, _≤_, _<_}
 use mathlib.Core.Path.{_≡_, refl, sym, ap, _∙_, subst}
 use mathlib.Core.Logic.{inl}
-use mathlib.Core.Bool.{Bool, true, false, not, _||_}
+use mathlib.Core.Bool.{Bool, true, false, not, _&&_, _||_}
 use mathlib.Core.List.{List}
 use native.Mathlib.Omega.{arith}
-use lib.Dec.{eqb}
+use lib.Dec.{eqb, leb, ltb}
 use lib.ListN.{length}
 use borrow.Author.Tests.{eqb-true, ne-eqb, lt-ltb, le-leb}
 use Rattle.format.specs.Bits.{bit}
@@ -24,24 +24,31 @@ use Rattle.records.specs.declared.DataType.{DataType}
 use Rattle.records.specs.declared.DataSpace.{DataSpace}
 use Rattle.parser.specs.declared.State.{State}
 use Rattle.number_form.specs.declared.NumberForm.{NumberForm}
+use Rattle.number_form.specs.declared.OptionForm.{OptionForm}
 use Rattle.number_form.specs.declared.OptionForm.the-variants as options
 use Rattle.number_form.specs.Forms.{numberForm}
-use Rattle.element_number.specs.Values.{numberOf, numberValue}
+use Rattle.element_number.specs.Values.{element, numberOf, numberValue}
 use Rattle.element_number.specs.Kept.{stored, stands-number}
 use Rattle.ohdr_datatype.specs.DataTypes.{classOf, dataType, typeLevels}
-use Rattle.standard_datatype.specs.Same.{SameHeader}
+use Rattle.standard_datatype.specs.Same.{ScalarMembers, SameHeader, SameType}
+use Rattle.standard_datatype.specs.Reads.{scalar-members, datatype-is-read}
 use Rattle.ohdr_dataspace.specs.DataSpaces as spaces
-use Rattle.ohdr_attribute.specs.Attributes.{padding, textValue, value, spaceValue, typeSpaceValue, encoding, attributeFields, attribute}
+use Rattle.ohdr_attribute.specs.Attributes.{padding, textValue, listValue, otherValue, elementValue, value, spaceValue, typeSpaceValue, encoding, attributeFields, attribute}
 use Rattle.ohdr_attribute.specs.Without.{with-or-without}
 use Rattle.standard.specs.Fields.{Bytes, only, raw}
+use Rattle.standard.specs.Converse.{Reads, ReadAs}
 use Rattle.standard.specs.Versions.{byVersion, marked}
-use Rattle.standard.specs.Datatypes.{headerOf, datatypeMessage}
+use Rattle.standard.specs.Datatypes.{class, headerOf, datatypeMessage}
+use Rattle.standard.specs.DatatypeRules.{Each}
 use Rattle.standard.specs.Dataspaces.{dataspaceMessage, elements}
 use Rattle.standard.specs.Attributes.{Sizes1, sizes1, Sizes3, sizes3, sized, Described, described, elementSize, rawSize, Attribute1, attribute1, Attribute3, attribute3, Attribute, of-version-1, of-version-3, attributeMessage}
-use Rattle.standard_messages.specs.Dataspaces.{ElementsDiffer}
-use Rattle.standard_attribute.specs.ReadValues.{ReadSpace, TextDescribed, TextValue, NumberDescribed, NumberValue, TextIs, NumberIs, ValueStands, nameSizeOf, describedOf, nameOf, dataOf}
+use Rattle.standard_messages.specs.ReadMessages.{ReadSpace}
+use Rattle.standard_messages.specs.Dataspaces.{elements-of}
+use Rattle.standard_messages.specs.SpaceReads.{dataspace-is-read}
+use Rattle.standard_attribute.specs.ReadValues.{TextDescribed, TextValue, NumberDescribed, NumberValue, ReadDescribed, ReadAttribute, TextIs, NumberIs, ValueStands, nameSizeOf, describedOf, nameOf, dataOf}
+use Rattle.standard_attribute.specs.Same.{SameName, SameValue, SameAttribute}
+use Rattle.standard_attribute.specs.Contents.{ValueTied, other-lists, too-long, same, value-tied}
 use Rattle.standard_attribute.specs.Ties.{ourName, same-name}
-use Rattle.standard_attribute.specs.ReadSpaces.{space-read}
 use Rattle.standard_attribute.specs.ReadElements.{elementType, string-read, number-read}
 use Rattle.standard_attribute.specs.NumberForms.{form-said, number-formed, number-same, number-class, has-class}
 
@@ -79,11 +86,11 @@ module _ (s : List ℕ) (state : State) where
   -- With the two bounds of the standard's format, the version and its padding, and the two sizes that are written: where the datatype is read as one of
   -- which Q holds, and its elements have a value.
   contents-value : (longest levels version : ℕ) (pad : ℕ → ℕ) → ((n : ℕ) → padding version n ≡ pad n) → (datatype-size dataspace-size p u q : ℕ) (x : Described) (Q : DataType → Type 0) (Is : Value → Type 0)
-      → Stands s (described longest levels (state .«size_of_lengths») pad datatype-size dataspace-size) p u x → ReadSpace (state .«size_of_lengths») (x .dataspace) → (ElementsDiffer (x .dataspace) → ⊥)
+      → Stands s (described longest levels (state .«size_of_lengths») pad datatype-size dataspace-size) p u x → ReadSpace (state .«size_of_lengths») (x .dataspace)
       → ((m : ℕ) → Stands s (datatypeMessage longest levels) p m (x .datatype) → (t : DataType) × Q t × Stands s (dataType typeLevels) p m t)
       → ((t : DataType) (n : ℕ) → Q t → n ≡ elements (x .dataspace) → Valued (value t n) u q Is) → Valued (typeSpaceValue version state) p q Is
   unfolding described
-  contents-value longest levels version pad same-pad datatype-size dataspace-size p u q x Q Is h r o types values =
+  contents-value longest levels version pad same-pad datatype-size dataspace-size p u q x Q Is h r types values =
       let theTypes = datatypeMessage longest levels in
       let theSpaces = dataspaceMessage (state .«size_of_lengths») in
       let a = stands-bind s (sized datatype-size theTypes) _ p u x h in
@@ -93,17 +100,19 @@ module _ (s : List ℕ) (state : State) where
       let t = sized-ends s datatype-size theTypes p (a .0) (a .1) (a .2) in
       let d = sized-ends s dataspace-size theSpaces from (b .0) (b .1) (b .2) in
       let f = sym e in
-      let y = space-read s state from (b .0) (b .1) (d .0) (subst (λ (z : Described). ReadSpace (state .«size_of_lengths») (z .dataspace)) f r) (subst (λ (z : Described). ElementsDiffer (z .dataspace) → ⊥) f o) in
+      let k = subst (λ (z : Described). ReadSpace (state .«size_of_lengths») (z .dataspace)) f r in
+      let y = dataspace-is-read s state from (b .0) (b .1) (d .0) k in
+      let g = elements-of (y .value) (b .1) (y .related .fields) (k .no-scalar-with-sizes) in
       let z = types (a .0) (subst (λ (z : Described). Stands s theTypes p (a .0) (z .datatype)) e (t .0)) in
       type-value version (pad datatype-size) p (a .0) q (z .0) Is (z .2)
       (ap (padding version) (omega (arith, t .1)) ∙ same-pad datatype-size)
       (a .3 .0)
-      (space-value version (pad dataspace-size) from (b .0) u q (z .0) (y .0) Is (y .1)
+      (space-value version (pad dataspace-size) from (b .0) u q (z .0) (y .value) Is (y .stands)
       (ap (padding version) (omega (arith, d .1)) ∙ same-pad dataspace-size)
-      (b .3 .1 .0) (omega arith) (values (z .0) (elementsOf (y .0)) (z .1) (y .2 ∙ ap (λ (z : Described). elements (z .dataspace)) e)))
+      (b .3 .1 .0) (omega arith) (values (z .0) (elementsOf (y .value)) (z .1) (g ∙ ap (λ (z : Described). elements (z .dataspace)) e)))
 
   -- the fields before the name, in version 1 and in version 3
-  fields1-read : (p q : ℕ) (x : Sizes1) → Stands s sizes1 p q x → x .name-size ≤ 4096 → Stands s attributeFields p q (record { version = 1; «name_size» = x .name-size })
+  pub fields1-read : (p q : ℕ) (x : Sizes1) → Stands s sizes1 p q x → x .name-size ≤ 4096 → Stands s attributeFields p q (record { version = 1; «name_size» = x .name-size })
   unfolding sizes1 attributeFields encoding bind
   fields1-read p q x h l =
       let c = stands-check s (eqb (le s p 1) 1) 0 _ (p + 1) q x (h .1) in
@@ -111,7 +120,7 @@ module _ (s : List ℕ) (state : State) where
       let n = rw (← e .1) at l in
       rw (← e .1) (h .0, rw (eqb-true (le s p 1) 1 (c .0)) (c .1 .0, (c .1 .1 .0, rw (le-leb (le s (p + 1 + 1) 2) 4096 n) (c .1 .1 .1 .0, (c .1 .1 .1 .1 .0, (e .0, refl))))))
 
-  fields3-read : (p q : ℕ) (x : Sizes3) → Stands s sizes3 p q x → x .name-size ≤ 4096 → Stands s attributeFields p q (record { version = 3; «name_size» = x .name-size })
+  pub fields3-read : (p q : ℕ) (x : Sizes3) → Stands s sizes3 p q x → x .name-size ≤ 4096 → Stands s attributeFields p q (record { version = 3; «name_size» = x .name-size })
   unfolding sizes3 attributeFields encoding bind
   fields3-read p q x h l =
       let c = stands-check s (eqb (le s p 1) 3) 0 _ (p + 1) q x (h .1) in
@@ -247,7 +256,7 @@ module _ (s : List ℕ) (state : State) where
     contents-text : ValuedOf (TextDescribed (state .«size_of_lengths»)) (TextIs s)
     unfolding value textValue
     contents-text version pad same-pad datatype-size dataspace-size p u x h r l =
-        contents-value longest levels version pad same-pad datatype-size dataspace-size p u (u + rawSize x) x (λ t. t ≡ elementType s longest (x .datatype)) (TextIs s x field) h (r .dataspace) (r .elements)
+        contents-value longest levels version pad same-pad datatype-size dataspace-size p u (u + rawSize x) x (λ t. t ≡ elementType s longest (x .datatype)) (TextIs s x field) h (r .dataspace)
         (λ m i. (elementType s longest (x .datatype), refl, string-read s longest levels 31 p m (x .datatype) i (r .string) (r .small-size)))
         (λ t n c e. rw c (text (elementType s longest (x .datatype)) n (r .string) (r .some-size) (rw e)))
       where
@@ -274,7 +283,7 @@ module _ (s : List ℕ) (state : State) where
     contents-number : AreBytes s → ValuedOf (NumberDescribed (state .«size_of_lengths»)) (NumberIs s)
     unfolding value
     contents-number bytes version pad same-pad datatype-size dataspace-size p u x h r l =
-        contents-value longest levels version pad same-pad datatype-size dataspace-size p u (u + rawSize x) x (λ t. t ≡ elementType s longest (x .datatype)) (NumberIs s x field) h (r .dataspace) (r .elements-same)
+        contents-value longest levels version pad same-pad datatype-size dataspace-size p u (u + rawSize x) x (λ t. t ≡ elementType s longest (x .datatype)) (NumberIs s x field) h (r .dataspace)
         (λ m i. (elementType s longest (x .datatype), refl, number-read s longest levels 31 p m (x .datatype) i (r .number) (r .float)))
         (λ t n c e. rw c (number n (e ∙ r .one)))
       where
@@ -296,6 +305,56 @@ module _ (s : List ℕ) (state : State) where
             let i = number-here bytes t (f .0) n u (number-class (x .datatype) (r .number)) e (f .1) (rw z l) in
             (values.Number v, (v, refl, number-same s bytes (f .0) (x .datatype) u w), subst (λ (k : ℕ). Stands s (value t n) u (u + k) (values.Number v)) z i)
 
+-- a value of any class has a reading, where its bytes are there, and one of variable length is short
+module _ (s : List ℕ) where
+  other-reads : (m u : ℕ) → u + m ≤ length s → (q : ℕ) × Reads s (otherValue m) u q
+  unfolding otherValue
+  other-reads m u l = go (leb 1 m && leb m 1048576)
+    where
+      go : (t : Bool) → (q : ℕ) × Reads s (pick t (skip m (done values.None)) (done values.None)) u q
+      go true = (u + m, (values.None, (l, (refl, refl))))
+      go false = (u, (values.None, (refl, refl)))
+
+  element-reads : (o : OptionForm) (t : DataType) (u : ℕ) → u + t .size ≤ length s → (q : ℕ) × Reads s (elementValue o t) u q
+  unfolding numberValue element bind
+  element-reads options.None t u l = other-reads (t .size) u l
+  element-reads (options.Some form) t u l = (u + t .size, (_, (l, (refl, refl))))
+
+  value-reads : (t : DataType) (n u : ℕ) → u + n * t .size ≤ length s → (classOf (t .«class_and_version») ≡ 9 → (n ≡ 1) × (t .size ≤ 12)) → (q : ℕ) × Reads s (value t n) u q
+  unfolding value textValue listValue
+  value-reads t n u l f = go (eqb (classOf (t .«class_and_version»)) 3 && ltb 0 (t .size)) (eqb (classOf (t .«class_and_version»)) 9) refl (eqb n 1) refl
+    where
+      one : n ≡ 1 → u + t .size ≤ length s
+      one e = let z : n * t .size ≡ t .size = rw e (omega arith) in rw z at l
+
+      go : (a b : Bool) → eqb (classOf (t .«class_and_version»)) 9 ≡ b → (c : Bool) → eqb n 1 ≡ c
+          → (q : ℕ) × Reads s (pick a (textValue (n * t .size)) (pick b (listValue (t .size)) (pick c (elementValue (numberForm t) t) (otherValue (n * t .size))))) u q
+      go true b e c d = (u + n * t .size, (_, (textLength s u (n * t .size), trimmed-found s u (n * t .size) l, (refl, refl))))
+      go false true e c d =
+          let w = f (eqb-true (classOf (t .«class_and_version»)) 9 e) in
+          (u + t .size, (values.None, rw (le-leb (t .size) 12 (w .1)) (one (w .0), (refl, refl))))
+      go false false e true d = element-reads (numberForm t) t u (one (eqb-true n 1 d))
+      go false false e false d = other-reads (n * t .size) u l
+
+  -- and is that of the standard, unless it is of a variable length or too long
+  value-same : (t : DataType) (x : Described) (u : ℕ) → SameType t (x .datatype) → u + rawSize x ≤ length s → (class (headerOf (x .datatype)) ≡ 9 → (elements (x .dataspace) ≡ 1) × (elementSize (x .datatype) ≤ 12))
+      → ((class (headerOf (x .datatype)) ≡ 3 → ⊥) → rawSize x ≤ 1048576)
+      → (v : Value) × SameValue s v (x .datatype) (elements (x .dataspace)) (record { position = u; length = rawSize x }) × Stands s (value t (elements (x .dataspace))) u (u + rawSize x) v
+  value-same t x u k l f g = go (value-tied s t (x .datatype) k n u (y .0) (y .1 .0) (omega arith) (y .1 .1))
+    where
+      n : ℕ
+      n = elements (x .dataspace)
+
+      y : (q : ℕ) × Reads s (value t n) u q
+      y =
+          value-reads t n u (rw (k .header .size) l)
+          (λ e. let w = f (ap (λ (c : ℕ). c % 16) (sym (k .header .class-and-version)) ∙ e) in (w .0, rw (k .header .size) (w .1)))
+
+      go : ValueTied s (x .datatype) n u (y .0) (y .1 .0) → (v : Value) × SameValue s v (x .datatype) n (record { position = u; length = rawSize x }) × Stands s (value t n) u (u + rawSize x) v
+      go (other-lists c d) = absurd (d (f c .0))
+      go (too-long c d m) = let z = g c in absurd (omega arith)
+      go (same r e w) = (y .1 .0, w, rw e (y .1 .1))
+
 -- Where the standard's attribute message stands with a text, and no listed difference applies, the attribute that is read stands over the same
 -- bytes, and its value is the data field, less the zeros at its end. The two bounds of the standard's datatype format play no part.
 pub text-value : (s : List ℕ) (state : State) (longest levels p q : ℕ) (x : Attribute) → Stands s (attributeMessage longest levels (state .«size_of_lengths»)) p q x
@@ -315,3 +374,26 @@ pub value-is-read : (s : List ℕ) (state : State) (p q m : ℕ) (name-field : B
 value-is-read s state p q m name-field Is a v i =
     let e = unique s (attribute state) p m q a (record { name = v .name; value = v .value }) i (v .stands) in
     (e .0, subst Is (ap (λ (b : ours.Attribute). b .value) (sym (e .1))) (v .same-value))
+
+same-attribute : (s : List ℕ) (a : ours.Attribute) (x : Attribute) → SameName s (a .name) (nameOf x) → Each ScalarMembers (describedOf x .datatype)
+    → SameValue s (a .value) (describedOf x .datatype) (elements (describedOf x .dataspace)) (dataOf x) → SameAttribute s a x
+same-attribute s a (of-version-1 x) n m v = record { name = n; members = m; value = v }
+same-attribute s a (of-version-3 x) n m v = record { name = n; members = m; value = v }
+
+-- Whatever its class, where no listed difference applies: the attribute that is read stands over the same bytes, with the standard's name, and its
+-- value is the one that the standard's data field makes, or none.
+pub attribute-is-read : (s : List ℕ) (state : State) (longest p q : ℕ) (x : Attribute) → Stands s (attributeMessage longest typeLevels (state .«size_of_lengths»)) p q x
+    → ReadAttribute (ReadDescribed (state .«size_of_lengths»)) x → ReadAs (SameAttribute s) (attribute state) s p q x
+attribute-is-read s state longest p q x h r =
+    let y = value-stands s state longest typeLevels (ReadDescribed (state .«size_of_lengths»)) Is contents p q x h (r .name-size) (r .described) in
+    let a : ours.Attribute = record { name = y .name; value = y .value } in
+    record { value = a; stands = y .stands; related = same-attribute s a x (y .same-name) (scalar-members (describedOf x .datatype) (r .described .datatype)) (y .same-value) }
+  where
+    Is : Described → Bytes → Value → Type 0
+    Is y field v = SameValue s v (y .datatype) (elements (y .dataspace)) field
+
+    contents : ValuedOf s state longest typeLevels (ReadDescribed (state .«size_of_lengths»)) Is
+    contents version pad same-pad datatype-size dataspace-size p u x h r l =
+        contents-value s state longest typeLevels version pad same-pad datatype-size dataspace-size p u (u + rawSize x) x (λ t. SameType t (x .datatype)) (Is x (record { position = u; length = rawSize x })) h (r .dataspace)
+        (λ m i. let y = datatype-is-read s longest typeLevels p m (x .datatype) i (r .datatype) in (y .value, y .related, y .stands))
+        (λ t n k e. rw e (value-same s t x u k l (r .variable-length) (r .short)))

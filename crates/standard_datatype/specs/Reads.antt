@@ -23,10 +23,11 @@ use Rattle.ohdr_datatype.specs.DataTypes.{knownClass, knownType, dataTypeHeader
 use Rattle.ohdr_datatype.specs.DataTypes as ours
 use Rattle.standard.specs.Fields.{Bytes}
 use Rattle.standard.specs.Versions.{marked}
-use Rattle.standard.specs.Datatypes.{DatatypeHeader, datatypeHeader, class, version, fixedPoint, FloatingPoint, floatingPoint, terminated, Member1, member1, Member3, member3, Member, version-1, version-3, member, memberCount, Datatype, datatype, headerOf, Properties, fixed-point, floating-point, no-properties, members, parent-type, Members, more-members, membersOf, compound, properties, datatypeOf, datatypeMessage}
-use Rattle.standard.specs.DatatypeRules.{EveryMember, Each, EachInside, EachMember}
+use Rattle.standard.specs.Datatypes.{DatatypeHeader, datatypeHeader, class, version, fixedPoint, FloatingPoint, floatingPoint, terminated, Member1, member1, Member3, member3, Member, version-1, version-3, member, memberCount, Datatype, datatype, Properties, fixed-point, floating-point, no-properties, members, parent-type, Members, no-members, more-members, membersOf, compound, properties, datatypeOf, datatypeMessage}
+use Rattle.standard.specs.Converse.{ReadAs}
+use Rattle.standard.specs.DatatypeRules.{EveryMember, OfMembers, Each, EachInside, EachMember}
 use Rattle.standard_datatype.specs.ReadTypes.{single, double, ReadFloat, ReadMember, ReadType}
-use Rattle.standard_datatype.specs.Same.{formatOf, formatIn, typeOf, SameHeader}
+use Rattle.standard_datatype.specs.Same.{formatOf, formatIn, typeOf, ScalarMember, ScalarMembers, SameHeader, OfClass, SameType}
 use Rattle.standard_datatype.specs.Ties.{one-of}
 
 -- the header that is read, with the standard's fields
@@ -50,6 +51,34 @@ unfolding typeLayer
 layer-read s T p m q h f i j =
     bind-stands s dataTypeHeader (λ h. bind (ours.properties h T) (λ f. done (typeOf h f))) p m q h (typeOf h f) i
     (bind-stands s (ours.properties h T) (λ f. done (typeOf h f)) m q q f (typeOf h f) j (refl, refl))
+
+-- members of version 1 are scalar, of a datatype message and of all inside it
+scalar-each : (h : DatatypeHeader) (m : Members) → EveryMember (λ x t. ReadMember h x) m → EveryMember (λ x t. ScalarMember x) m
+scalar-each h no-members r = tt
+scalar-each h (more-members (version-1 x) t rest) r = (r .0 .1, scalar-each h rest (r .1))
+scalar-each h (more-members (version-3 x) t rest) r = (tt, scalar-each h rest (r .1))
+
+scalar-own : (h : DatatypeHeader) (p : Properties) → OfMembers (λ h m t. ReadMember h m) h p → ScalarMembers h p
+scalar-own h (fixed-point f) r = tt
+scalar-own h (floating-point f) r = tt
+scalar-own h no-properties r = tt
+scalar-own h (members m) r = scalar-each h m r
+scalar-own h (parent-type t) r = tt
+
+mutual
+  pub scalar-members : (t : Datatype) → Each ReadType t → Each ScalarMembers t
+  scalar-members (datatype h p) w = (scalar-own h p (w .0 .members), scalar-inside p (w .1))
+
+  scalar-inside : (p : Properties) → EachInside ReadType p → EachInside ScalarMembers p
+  scalar-inside (fixed-point f) w = tt
+  scalar-inside (floating-point f) w = tt
+  scalar-inside no-properties w = tt
+  scalar-inside (members m) w = scalar-of m w
+  scalar-inside (parent-type t) w = scalar-members t w
+
+  scalar-of : (m : Members) → EachMember ReadType m → EachMember ScalarMembers m
+  scalar-of no-members w = tt
+  scalar-of (more-members x t rest) w = (scalar-members t (w .0), scalar-of rest (w .1))
 
 module _ (s : List ℕ) (longest : ℕ) where
   -- a name with its zero, and what follows it
@@ -105,8 +134,8 @@ module _ (s : List ℕ) (longest : ℕ) where
       rw e (member3-read (h .size) p q (b .1) (rw (b .3 .0) at (b .2)) (a .0) (a .1) (omega arith))
 
   -- a datatype stands from p to q, with the fields of the standard's message t
-  abbrev pub TypeRead : Format DataType → ℕ → ℕ → Datatype → Type 0
-  TypeRead U p q t = (r : DataType) × Stands s U p q r × SameHeader r (headerOf t) × (r .«data_fmt» ≡ formatOf t)
+  abbrev TypeRead : Format DataType → ℕ → ℕ → Datatype → Type 0
+  TypeRead U p q t = ReadAs SameType U s p q t
 
   -- properties stand from p to q, with the format of the standard's properties x
   abbrev pub PropertiesRead : Format OptionDataFormat → ℕ → ℕ → Properties → Type 0
@@ -148,6 +177,32 @@ module _ (s : List ℕ) (longest : ℕ) where
       let a = rw (← b .3 .1) at r in
       rw (← b .3 .1) (bind-stands s floatProperties _ p (b .0) q (ourFloat (b .1)) _ (float-fields-read p (b .0) (b .1) (b .2)) (rw (float-passes (b .1) a) (b .3 .0, refl)))
 
+  -- the properties are those of their class
+  class-of : (T : Format Datatype) (h : DatatypeHeader) (p q : ℕ) (x : Properties) → Stands s (properties longest T h) p q x → ReadFloat x → OfClass (class h) x
+  unfolding properties
+  class-of T h p q x i r = go (eqb (class h) 0) refl (eqb (class h) 1) refl (eqb (class h) 3) (eqb (class h) 6) (eqb (class h) 7) (eqb (class h) 9) refl i
+    where
+      go : (c0 : Bool) → eqb (class h) 0 ≡ c0 → (c1 : Bool) → eqb (class h) 1 ≡ c1 → (c3 c6 c7 c9 : Bool) → eqb (class h) 9 ≡ c9
+          → Stands s (
+          pick c0 (bind fixedPoint (λ f. done (fixed-point f))) (
+          pick c1 (bind floatingPoint (λ f. done (floating-point f))) (
+          pick c3 (done no-properties) (
+          pick c6 (bind (compound longest T h) (λ m. done (members m))) (
+          pick c7 (done no-properties) (
+          pick c9 (bind T (λ t. done (parent-type t))) (
+          refuse 0))))))) p q x
+          → OfClass (class h) x
+      go true e c1 d c3 c6 c7 c9 g i = let b = stands-bind s fixedPoint (λ f. done (fixed-point f)) p q x i in rw (← b .3 .1) (eqb-true (class h) 0 e)
+      go false e true d c3 c6 c7 c9 g i =
+          let b = stands-bind s floatingPoint (λ f. done (floating-point f)) p q x i in
+          let a = rw (← b .3 .1) at r in
+          rw (← b .3 .1) (eqb-true (class h) 1 d, a)
+      go false e false d true c6 c7 c9 g i = rw (← i .1) tt
+      go false e false d false true c7 c9 g i = let b = stands-bind s (compound longest T h) (λ m. done (members m)) p q x i in rw (← b .3 .1) tt
+      go false e false d false false true c9 g i = rw (← i .1) tt
+      go false e false d false false false true g i = let b = stands-bind s T (λ t. done (parent-type t)) p q x i in rw (← b .3 .1) (eqb-true (class h) 9 g)
+      go false e false d false false false false g i = absurd i
+
   -- over the types inside
   module _ (T : Format Datatype) (U : Format DataType) (types : (p q : ℕ) (t : Datatype) → Stands s T p q t → Each ReadType t → TypeRead U p q t) where
     members-read : (h : DatatypeHeader) (n p q : ℕ) (m : Members) → (version h ≡ 1) ⊎ (version h ≡ 3) → h .size < 64 → Stands s (membersOf longest h T n) p q m
@@ -164,7 +219,7 @@ module _ (s : List ℕ) (longest : ℕ) where
         let y = types (a .0) (b .0) (b .1) (b .2) (w′ .0) in
         let z = members-read h n (b .0) q (c .1) v u (rw (c .3 .0) at (c .2)) (r′ .1) (w′ .1) in
         bind-stands s (ours.member (version h) (h .size) U) (λ _. times n (ours.member (version h) (h .size) U) plain) p (b .0) q tt optionFormats.None
-        (bind-stands s (memberFields (version h) (h .size)) (λ _. bind U (λ _. nothing)) p (a .0) (b .0) tt tt x (bind-stands s U (λ _. nothing) (a .0) (b .0) (b .0) (y .0) tt (y .1) (refl, refl)))
+        (bind-stands s (memberFields (version h) (h .size)) (λ _. bind U (λ _. nothing)) p (a .0) (b .0) tt tt x (bind-stands s U (λ _. nothing) (a .0) (b .0) (b .0) (y .value) tt (y .stands) (refl, refl)))
         z
 
     compound-read : (h : DatatypeHeader) (p q : ℕ) (x : Properties) → (version h ≡ 1) ⊎ (version h ≡ 3) → Stands s (bind (compound longest T h) (λ m. done (members m))) p q x
@@ -182,7 +237,7 @@ module _ (s : List ℕ) (longest : ℕ) where
         let b = stands-bind s T (λ t. done (parent-type t)) p q x i in
         let w′ = rw (← b .3 .1) at w in
         let y = types p (b .0) (b .1) (b .2) w′ in
-        rw (← b .3 .1) (bind-stands s U (λ base. done (base .«data_fmt»)) p (b .0) q (y .0) (formatOf (b .1)) (y .1) (b .3 .0, y .3))
+        rw (← b .3 .1) (bind-stands s U (λ base. done (base .«data_fmt»)) p (b .0) q (y .value) (formatOf (b .1)) (y .stands) (b .3 .0, y .related .properties))
 
     -- by the classes of the standard's format, in its order: properties stand only of these
     properties-read : (h : DatatypeHeader) (p q : ℕ) (x : Properties) → (version h ≡ 1) ⊎ (version h ≡ 3) → Stands s (properties longest T h) p q x → ReadType h x → EachInside ReadType x
@@ -227,11 +282,14 @@ module _ (s : List ℕ) (longest : ℕ) where
         let y = properties-read h (a .0) q (c .1) (one-of (version h) 1 3 (b .0)) (rw (c .3 .0) at (c .2)) (w′ .0) (w′ .1) in
         let f = formatIn (c .1) in
         let z = layer-read s U p (a .0) q (ourHeader h) f (header-read s p (a .0) h (a .2) (b .0) (y .0) (w′ .0 .small-size)) (y .1) in
-        rw (← c .3 .1) (typeOf (ourHeader h) f, z, record { class-and-version = refl; class-bit-field = refl; size = refl; list-size = refl }, refl)
+        let e : SameHeader (typeOf (ourHeader h) f) h = record { class-and-version = refl; class-bit-field = refl; size = refl; list-size = refl } in
+        let k = class-of T h (a .0) q (c .1) (rw (c .3 .0) at (c .2)) (w′ .0 .float) in
+        let r : TypeRead (typeLayer U) p q (datatype h (c .1)) = record { value = typeOf (ourHeader h) f; stands = z; related = record { header = e; properties = refl; of-class = k; members = scalar-members (datatype h (c .1)) w′ } } in
+        rw (← c .3 .1) r
 
   -- A datatype message of the standard with at most so many datatype messages one inside another, none of which a listed difference turns back, is read
   -- over the same bytes, and its record has the message's fields.
-  pub datatype-is-read : (levels p q : ℕ) (t : Datatype) → Stands s (datatypeMessage longest levels) p q t → Each ReadType t → TypeRead (dataType levels) p q t
+  pub datatype-is-read : (levels p q : ℕ) (t : Datatype) → Stands s (datatypeMessage longest levels) p q t → Each ReadType t → ReadAs SameType (dataType levels) s p q t
   unfolding datatypeMessage dataType
   datatype-is-read zero p q t i w = absurd i
   datatype-is-read (suc levels) p q t i w = type-read (datatypeMessage longest levels) (dataType levels) (datatype-is-read levels) p q t i w

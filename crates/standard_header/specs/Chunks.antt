@@ -1,5 +1,4 @@
--- The chunks of a header as they are read are those of the specification, each by itself, or a listed difference applies in it.
--- Entries are those of docs/DIFFERENCES.md, part one. Assumes nothing.
+-- The chunks of a header as they are read are those of the specification, each by itself, or a listed difference applies in it. Assumes nothing.
 use Prim.Native.Nat.{ℕ, _+_, _-_, _≤_, _<_}
 use mathlib.Core.Path.{_≡_, refl, sym, _∙_}
 use mathlib.Core.Logic.{_⊎_, inl, inr}
@@ -21,56 +20,18 @@ use Rattle.ohdr_entry.specs.Entered.{continued}
 use Rattle.lookup3.specs.Lookup3.{sumMatches}
 use Rattle.lookup3.specs.Laws.{matches-is}
 use Rattle.ohdr_walk.specs.Sources.{source}
-use Rattle.standard.specs.Headers.{HeaderMessage, headerMessage, continuationSignature}
+use Rattle.standard.specs.Headers.{HeaderMessage, headerMessage}
 use Rattle.standard.specs.Chunks.{ChecksumStands}
 use Rattle.standard_header.specs.Prefixes.{block-signature-tied}
-use Rattle.standard_header.specs.Same.{SameHeld, SameEntries}
-use Rattle.standard_header.specs.Entries.{MessageEntry, message-entry, ContinuationEntry, continuation-entry}
-use Rattle.standard_header.specs.Bodies.{BodyIs, body-is}
-
--- OwnMessages p e xs: in a file, with the flags of the header, from p on these messages of the specification stand, one after another, then a gap
--- of less than 4 bytes up to e. They are its `Messages` (standard, Chunks) without those in the blocks of continuations.
-abbrev pub OwnMessages : List ℕ → ℕ → ℕ → ℕ → List HeaderMessage → Type 0
-OwnMessages file header-flags p e [] = (p ≤ e) × (e < p + 4)
-OwnMessages file header-flags p e (x ∷ xs) = (m : ℕ) × Stands file (headerMessage header-flags) p m x × OwnMessages file header-flags m e xs
+use Rattle.standard_header.specs.Same.{SameHeld}
+use Rattle.standard_header.specs.Is.{MessageEntry, ContinuationEntry}
+use Rattle.standard_header.specs.Entries.{message-entry, continuation-entry}
+use Rattle.standard_header.specs.Bodies.{body-is}
+use Rattle.standard_header.specs.Differences.{ChunkDiffers, wide-gap, message-past-its-size, continuation-past-its-size, past-the-chunk, later, BlockDiffers}
+use Rattle.standard_header.specs.HeaderIs.{ChunkIs, BlockIs, MessageIs, EntriesAre, none, a-message, a-continuation}
 
 -- over a file, the widths, and the flags of the header
 module _ (file : List ℕ) (s : State) (header-flags : ℕ) where
-  -- ChunkDiffers p e: in the chunk from p to e so many messages stand by the specification, and where the next is due, since 4 bytes or more
-  -- are left, a listed difference applies
-  pub data ChunkDiffers : ℕ → ℕ → Type 0 where
-    -- a gap of 4 or 5 bytes (entry 9)
-    wide-gap : {p e : ℕ} → bit header-flags 2 ≡ true → p + 4 ≤ e → e < p + 6 → ChunkDiffers p e
-    -- the fields of a message use more bytes than its size says (entry 12)
-    message-past-its-size : {p e : ℕ} → p + 4 ≤ e → (q : ℕ) (m : Message) (x : MessageEntry file s header-flags p q m) → m .body + m .size < x .fields-end → ChunkDiffers p e
-    continuation-past-its-size : {p e : ℕ} → p + 4 ≤ e → (q o l : ℕ) (x : ContinuationEntry file s header-flags p q o l) → x .at + x .size < x .fields-end → ChunkDiffers p e
-    -- a message ends past the chunk (entry 13)
-    past-the-chunk : {p e : ℕ} → p + 4 ≤ e → (m : ℕ) (x : HeaderMessage) → Stands file (headerMessage header-flags) p m x → e < m → ChunkDiffers p e
-    -- one applies after a message
-    later : {p e : ℕ} → p + 4 ≤ e → (m : ℕ) (x : HeaderMessage) → Stands file (headerMessage header-flags) p m x → ChunkDiffers m e → ChunkDiffers p e
-
-  -- the same of the chunk in a block, between the specification's signature and its checksum
-  pub record BlockDiffers (offset size : ℕ) : Type 0 where
-    pub start : ℕ
-    pub signature : ℕ
-    pub signature-stands : Stands file continuationSignature offset start signature
-    pub chunk : ChunkDiffers start (offset + size - 4)
-    pub checksum-stands : ChecksumStands file offset (offset + size - 4)
-
-  -- the entries that are read in the chunk from p to e itself are its messages
-  pub record ChunkIs (p e : ℕ) (own : List Item) : Type 0 where
-    pub messages : List HeaderMessage
-    pub stand : OwnMessages file header-flags p e messages
-    pub same : SameEntries file s own messages
-
-  -- the same of the chunk in a block, which is the specification's: signature, messages, gap, and checksum
-  pub record BlockIs (offset size : ℕ) (own : List Item) : Type 0 where
-    pub start : ℕ
-    pub signature : ℕ
-    pub signature-stands : Stands file continuationSignature offset start signature
-    pub chunk : ChunkIs start (offset + size - 4) own
-    pub checksum-stands : ChecksumStands file offset (offset + size - 4)
-
   -- an entry as a header message of the specification
   record EntryStands (p q : ℕ) (i : Item) : Type 0 where
     theirs : HeaderMessage
@@ -79,7 +40,7 @@ module _ (file : List ℕ) (s : State) (header-flags : ℕ) where
 
   -- what an entry from p to q makes of the chunk that it stands in
   abbrev Head : ℕ → ℕ → Item → Type 0
-  Head p q i = ((e : ℕ) → p + 4 ≤ e → ChunkDiffers p e) ⊎ EntryStands p q i
+  Head p q i = ((e : ℕ) → p + 4 ≤ e → ChunkDiffers file s header-flags p e) ⊎ EntryStands p q i
 
   message-head : (p q : ℕ) (m : Message) → MessageEntry file s header-flags p q m → Head p q (item p q (message m))
   message-head p q m x = by-le (x .fields-end) (m .body + m .size) (λ l. inr (whole l)) (λ l. inl (λ e d. message-past-its-size d q m x l))
@@ -113,7 +74,7 @@ module _ (file : List ℕ) (s : State) (header-flags : ℕ) where
 
   -- a chunk from p to e that is read up to q
   abbrev pub ReadUpTo : ℕ → ℕ → ℕ → List Item → Type 0
-  ReadUpTo p e q own = ChunkDiffers p e ⊎ ((q ≤ e) × ChunkIs p e own)
+  ReadUpTo p e q own = ChunkDiffers file s header-flags p e ⊎ ((q ≤ e) × ChunkIs file s header-flags p e own)
 
   -- the end of a run
   at-end : (p e : ℕ) → e < p + prefixSize header-flags → p ≤ e → ReadUpTo p e p []
@@ -156,10 +117,10 @@ module _ (file : List ℕ) (s : State) (header-flags : ℕ) where
 
   -- a block
   block-of : (offset size start q : ℕ) (own : List Item) → Stands file ochk offset start tt → (start ≤ offset + size - 4 → ReadUpTo start (offset + size - 4) q own)
-      → ChecksumStands file offset (offset + size - 4) → 8 ≤ size → BlockDiffers offset size ⊎ BlockIs offset size own
+      → ChecksumStands file offset (offset + size - 4) → 8 ≤ size → BlockDiffers file s header-flags offset size ⊎ BlockIs file s header-flags offset size own
   block-of offset size start q own h j t l = let e = signature-end offset start h in go (j (omega arith))
     where
-      go : ReadUpTo start (offset + size - 4) q own → BlockDiffers offset size ⊎ BlockIs offset size own
+      go : ReadUpTo start (offset + size - 4) q own → BlockDiffers file s header-flags offset size ⊎ BlockIs file s header-flags offset size own
       go (inl d) =
           let y = block-signature-tied .ties file offset start tt h in
           inl (record { start = start; signature = y .value; signature-stands = y .stands; chunk = d; checksum-stands = t })
@@ -169,39 +130,24 @@ module _ (file : List ℕ) (s : State) (header-flags : ℕ) where
 
 -- and the longest name of a member that the specification's formats are asked for
 module _ (file : List ℕ) (s : State) (longest header-flags : ℕ) where
-  -- a message of a reading: the entry that it stands in, and the message of its type in its body
-  pub record MessageIs (p q : ℕ) (m : Message) : Type 0 where
-    pub in-entry : MessageEntry file s header-flags p q m
-    pub body-of : BodyIs file s longest (m .body) (in-entry .fields-end) (m .type) (m .kept)
-
-  -- EntriesAre own all: of the entries `all` those in a chunk itself are `own`; just after a continuation come the entries of its block, and
-  -- those in that chunk itself are `block-own`. Each entry is a header message of the specification. Each block is the specification's by itself
-  -- unless a difference applies in it; what applies in other chunks plays no part.
-  pub data EntriesAre : List Item → List Item → Type 0 where
-    none : EntriesAre [] []
-    a-message : {p q : ℕ} {m : Message} {own all : List Item} → MessageIs p q m → EntriesAre own all → EntriesAre (item p q (message m) ∷ own) (item p q (message m) ∷ all)
-    a-continuation : {p q o l : ℕ} {own all block-own block-all : List Item} → ContinuationEntry file s header-flags p q o l
-        → BlockDiffers file s header-flags o l ⊎ BlockIs file s header-flags o l block-own → EntriesAre block-own block-all
-        → EntriesAre own all → EntriesAre (item p q (continuation o l) ∷ own) (item p q (continuation o l) ∷ (block-all ++ all))
-
   -- what is known of a run, of an entry and of a block that are read
   pub record ReadRun (p e q : ℕ) (all : List Item) : Type 0 where
     pub own : List Item
     pub chunk : p ≤ e → ReadUpTo file s header-flags p e q own
-    pub entries : EntriesAre own all
+    pub entries : EntriesAre file s longest header-flags own all
 
   record ReadEntry (p q : ℕ) (all : List Item) : Type 0 where
     first : Item
     head : Head file s header-flags p q first
-    before : (own more : List Item) → EntriesAre own more → EntriesAre (first ∷ own) (all ++ more)
+    before : (own more : List Item) → EntriesAre file s longest header-flags own more → EntriesAre file s longest header-flags (first ∷ own) (all ++ more)
 
   record ReadBlock (offset size : ℕ) (all : List Item) : Type 0 where
     own : List Item
     chunk : 8 ≤ size → BlockDiffers file s header-flags offset size ⊎ BlockIs file s header-flags offset size own
-    entries : EntriesAre own all
+    entries : EntriesAre file s longest header-flags own all
 
   module _ (enough : 4095 ≤ longest) where
-    message-is : (p q : ℕ) (m : Message) → MessageEntry file s header-flags p q m → MessageIs p q m
+    message-is : (p q : ℕ) (m : Message) → MessageEntry file s header-flags p q m → MessageIs file s longest header-flags p q m
     message-is p q m x = record { in-entry = x; body-of = body-is file s longest enough (m .type) (m .body) (x .fields-end) (m .kept) (x .fields-stand) }
 
     pub run-is : {level p e q : ℕ} {is : List Item} → Run (source file s header-flags) level p e q is → ReadRun p e q is

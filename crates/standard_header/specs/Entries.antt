@@ -1,6 +1,5 @@
--- An entry that is read is a header message of the specification, unless its fields use more bytes than its size.
--- Entries are those of docs/DIFFERENCES.md, part one. Assumes nothing.
-use Prim.Native.Nat.{ℕ, _+_, _-_, _≤_, _<_}
+-- An entry that is read is a header message of the specification, unless its fields use more bytes than its size. Assumes nothing.
+use Prim.Native.Nat.{ℕ, _+_, _-_, _≤_}
 use mathlib.Core.Path.{_≡_, refl, sym}
 use mathlib.Core.Logic.{_⊎_, inl, inr}
 use mathlib.Core.Bool.{Bool, true, false}
@@ -17,10 +16,10 @@ use Rattle.ohdr_entry.specs.Continuations as info
 use Rattle.ohdr_entry.specs.declared.Prefix.{Prefix}
 use Rattle.ohdr_entry.specs.Entries.{prefix, body, messageHeld, continuationHeld, closed, entry}
 use Rattle.standard.specs.Fields.{Bytes, raw}
-use Rattle.standard.specs.Tie.{Stood}
-use Rattle.standard.specs.Headers.{MessagePrefix, messagePrefix, HeaderMessage, headerMessage, continuationMessage}
-use Rattle.standard_messages.specs.Infos.{SameContinuation, continuation-tied}
+use Rattle.standard.specs.Headers.{MessagePrefix, messagePrefix, HeaderMessage, headerMessage}
+use Rattle.standard_messages.specs.Infos.{continuation-tied}
 use Rattle.standard_header.specs.Prefixes.{prefix-tied}
+use Rattle.standard_header.specs.Is.{EntryIs, MessageEntry, ContinuationEntry}
 
 module _ (file : List ℕ) (s : State) (header-flags : ℕ) where
   -- what an entry from p to q is made of: a prefix up to b, fields up to c, and the rest of its size
@@ -48,18 +47,6 @@ module _ (file : List ℕ) (s : State) (header-flags : ℕ) where
           let k : Stands file (messageHeld s x b) b (w .0) v = rw (w .3 .1 .1) at (w .2) in
           record { ours = x; b = b; prefix-stands = i; c = w .0; held = inr (eqb-false (x .kind) 16 e, k); room = w .3 .0; close = w .3 .1 .0 }
 
-  -- EntryIs p q b c type size flags: an entry from p to q with its body at b, whose fields end at c, is the specification's header message
-  pub record EntryIs (p q b c type size flags : ℕ) : Type 0 where
-    pub prefix-of : MessagePrefix
-    pub prefix-stands : Stands file (messagePrefix header-flags) p b prefix-of
-    pub header-message-type : type ≡ prefix-of .header-message-type
-    pub size-of-header-message-data : size ≡ prefix-of .size-of-header-message-data
-    pub header-message-flags : flags ≡ prefix-of .header-message-flags
-    -- its data are as many bytes as its size says, and the next message follows them; the fields may use less (entry 14)
-    pub within : c ≤ b + size → Stands file (headerMessage header-flags) p q (record { prefix = prefix-of; header-message-data = record { position = b; length = size } })
-    -- or the fields use more, and the next message follows the fields (entry 12)
-    pub beyond : b + size < c → q ≡ c
-
   message-stands : (p b size : ℕ) (x : MessagePrefix) → Stands file (messagePrefix header-flags) p b x → size ≡ x .size-of-header-message-data → b + size ≤ length file
       → Stands file (headerMessage header-flags) p (b + size) (record { prefix = x; header-message-data = record { position = b; length = size } })
   unfolding headerMessage raw
@@ -70,7 +57,7 @@ module _ (file : List ℕ) (s : State) (header-flags : ℕ) where
       let v : HeaderMessage = record { prefix = x; header-message-data = d } in
       bind-stands file (messagePrefix header-flags) _ p b (b + size) x v h (bind-stands file (raw (x .size-of-header-message-data)) _ b (b + size) (b + size) d v j (refl, refl))
 
-  entry-of : (p q b c : ℕ) (x : Prefix) → Stands file (prefix header-flags) p b x → c + (b + x .size - c) ≤ length file → c + (b + x .size - c) ≡ q → EntryIs p q b c (x .kind) (x .size) (x .flags)
+  entry-of : (p q b c : ℕ) (x : Prefix) → Stands file (prefix header-flags) p b x → c + (b + x .size - c) ≤ length file → c + (b + x .size - c) ≡ q → EntryIs file s header-flags p q b c (x .kind) (x .size) (x .flags)
   entry-of p q b c x h r e =
       let y = prefix-tied header-flags .ties file p b x h in
       record {
@@ -86,53 +73,37 @@ module _ (file : List ℕ) (s : State) (header-flags : ℕ) where
         beyond = λ l. omega arith;
       }
 
-  -- a message and its entry
-  pub record MessageEntry (p q : ℕ) (m : Message) : Type 0 where
-    pub fields-end : ℕ
-    pub entry-is : EntryIs p q (m .body) fields-end (m .type) (m .size) (m .flags)
-    pub fields-stand : Stands file (body s (m .type)) (m .body) fields-end (m .kept)
-    pub no-continuation : m .type ≡ 16 → ⊥
-
-  -- a continuation and its entry
-  pub record ContinuationEntry (p q offset length : ℕ) : Type 0 where
-    pub at : ℕ
-    pub size : ℕ
-    pub flags : ℕ
-    pub fields-end : ℕ
-    pub entry-is : EntryIs p q at fields-end 16 size flags
-    pub fields-stand : Stood SameContinuation (continuationMessage (s .«size_of_offsets») (s .«size_of_lengths»)) file at fields-end (record { offset = offset; length = length })
-
   -- no entry is both
   neither-both : {P : Type 0} {m : Message} {o l : ℕ} → message m ≡ continuation o l → P
   neither-both e = let z : _≡_ {A = ℕ} 0 1 = cc in absurd (omega arith)
 
-  pub message-entry : (p q : ℕ) (m : Message) → Stands file (entry s header-flags) p q (message m) → MessageEntry p q m
+  pub message-entry : (p q : ℕ) (m : Message) → Stands file (entry s header-flags) p q (message m) → MessageEntry file s header-flags p q m
   unfolding messageHeld continuationHeld
   message-entry p q m h = let w = parts-of p q (message m) h in go w (w .held)
     where
-      go : (w : Parts p q (message m)) → ((w .ours .kind ≡ 16) × Stands file (continuationHeld s (w .ours) (w .b)) (w .b) (w .c) (message m)) ⊎ ((w .ours .kind ≡ 16 → ⊥) × Stands file (messageHeld s (w .ours) (w .b)) (w .b) (w .c) (message m)) → MessageEntry p q m
+      go : (w : Parts p q (message m)) → ((w .ours .kind ≡ 16) × Stands file (continuationHeld s (w .ours) (w .b)) (w .b) (w .c) (message m)) ⊎ ((w .ours .kind ≡ 16 → ⊥) × Stands file (messageHeld s (w .ours) (w .b)) (w .b) (w .c) (message m)) → MessageEntry file s header-flags p q m
       go w (inl x) = let u = stands-bind file (info.continuation s) _ (w .b) (w .c) (message m) (x .1) in neither-both (sym (u .3 .1))
       go w (inr x) =
           let u = stands-bind file (body s (w .ours .kind)) _ (w .b) (w .c) (message m) (x .1) in
           let n : Message = record { type = w .ours .kind; flags = w .ours .flags; size = w .ours .size; body = w .b; kept = u .1 } in
           let f : Stands file (body s (w .ours .kind)) (w .b) (w .c) (u .1) = rw (u .3 .0) at (u .2) in
-          let r : MessageEntry p q n = record { fields-end = w .c; entry-is = entry-of p q (w .b) (w .c) (w .ours) (w .prefix-stands) (w .room) (w .close); fields-stand = f; no-continuation = x .0 } in
+          let r : MessageEntry file s header-flags p q n = record { fields-end = w .c; entry-is = entry-of p q (w .b) (w .c) (w .ours) (w .prefix-stands) (w .room) (w .close); fields-stand = f; no-continuation = x .0 } in
           let e : n ≡ m = cc (u .3 .1) in
           rw (← e) r
 
-  renamed : {p q : ℕ} (i k o l : ℕ) → i ≡ o → k ≡ l → ContinuationEntry p q i k → ContinuationEntry p q o l
+  renamed : {p q : ℕ} (i k o l : ℕ) → i ≡ o → k ≡ l → ContinuationEntry file s header-flags p q i k → ContinuationEntry file s header-flags p q o l
   renamed i k o l e d x = rw (← e, ← d) x
 
-  pub continuation-entry : (p q o l : ℕ) → Stands file (entry s header-flags) p q (continuation o l) → ContinuationEntry p q o l
+  pub continuation-entry : (p q o l : ℕ) → Stands file (entry s header-flags) p q (continuation o l) → ContinuationEntry file s header-flags p q o l
   unfolding messageHeld continuationHeld
   continuation-entry p q o l h = let w = parts-of p q (continuation o l) h in go w (w .held)
     where
-      go : (w : Parts p q (continuation o l)) → ((w .ours .kind ≡ 16) × Stands file (continuationHeld s (w .ours) (w .b)) (w .b) (w .c) (continuation o l)) ⊎ ((w .ours .kind ≡ 16 → ⊥) × Stands file (messageHeld s (w .ours) (w .b)) (w .b) (w .c) (continuation o l)) → ContinuationEntry p q o l
+      go : (w : Parts p q (continuation o l)) → ((w .ours .kind ≡ 16) × Stands file (continuationHeld s (w .ours) (w .b)) (w .b) (w .c) (continuation o l)) ⊎ ((w .ours .kind ≡ 16 → ⊥) × Stands file (messageHeld s (w .ours) (w .b)) (w .b) (w .c) (continuation o l)) → ContinuationEntry file s header-flags p q o l
       go w (inr x) = let u = stands-bind file (body s (w .ours .kind)) _ (w .b) (w .c) (continuation o l) (x .1) in neither-both (u .3 .1)
       go w (inl x) =
           let u = stands-bind file (info.continuation s) _ (w .b) (w .c) (continuation o l) (x .1) in
           let f : Stands file (info.continuation s) (w .b) (w .c) (u .1) = rw (u .3 .0) at (u .2) in
           let eo : u .1 .offset ≡ o = cc (u .3 .1) in
           let el : u .1 .length ≡ l = cc (u .3 .1) in
-          let y : EntryIs p q (w .b) (w .c) 16 (w .ours .size) (w .ours .flags) = rw (x .0) at (entry-of p q (w .b) (w .c) (w .ours) (w .prefix-stands) (w .room) (w .close)) in
+          let y : EntryIs file s header-flags p q (w .b) (w .c) 16 (w .ours .size) (w .ours .flags) = rw (x .0) at (entry-of p q (w .b) (w .c) (w .ours) (w .prefix-stands) (w .room) (w .close)) in
           renamed (u .1 .offset) (u .1 .length) o l eo el (record { at = w .b; size = w .ours .size; flags = w .ours .flags; fields-end = w .c; entry-is = y; fields-stand = continuation-tied s .ties file (w .b) (w .c) (u .1) f })

@@ -10,21 +10,15 @@ use borrow.Author.Tests.{not-true}
 use Rattle.format.specs.Bits.{bit}
 use Rattle.format.specs.Format.{Format, number, skip, bind, pick, nothing, signature}
 use Rattle.grammar.specs.Grammar.{ochk}
-use Rattle.ohdr_entry.specs.declared.Prefix.{Prefix}
 use Rattle.ohdr_entry.specs.Entries.{creationOrder, prefix}
-use Rattle.data_object_header.specs.declared.HeaderFields.{HeaderFields}
 use Rattle.data_object_header.specs.Headers.{ohdr, headerFields}
 use Rattle.standard.specs.Fields.{Optional, only, optional}
 use Rattle.standard.specs.Tie.{Tied, tied-done, tied-number, tied-check, tied-only, tied-pick, tied-bind, tied-bind-check, tied-split, tied-skip-none, tied-optional, tied-optional-none}
-use Rattle.standard.specs.Headers.{ObjectHeaderPrefix, objectHeaderPrefix, MessagePrefix, messagePrefix, continuationSignature}
-
--- IV.A.1.b, the header; of its flags bit 4 is refused (entry 6), bits 6 and 7 have no effect (7)
-pub record SameHeader (ours : HeaderFields) (theirs : ObjectHeaderPrefix) : Type 0 where
-  pub flags : ours .flags ≡ theirs .flags
-  pub size-of-chunk-0 : ours .size ≡ theirs .size-of-chunk-0
+use Rattle.standard.specs.Headers.{objectHeaderPrefix, messagePrefix, continuationSignature}
+use Rattle.standard_header.specs.Same.{SameHeader, SamePrefix}
 
 -- the bytes of the chunk size
-width-same : (n : ℕ) → n < 4 → 2 ^ n ≡ pick (eqb n 0) 1 (pick (eqb n 1) 2 (pick (eqb n 2) 4 8))
+pub width-same : (n : ℕ) → n < 4 → 2 ^ n ≡ pick (eqb n 0) 1 (pick (eqb n 1) 2 (pick (eqb n 2) 4 8))
 width-same zero h = refl
 width-same (suc zero) h = refl
 width-same (suc (suc zero)) h = refl
@@ -66,12 +60,6 @@ header-tied =
     rw (← width-same (flags % 4) (omega arith)) (tied-number (λ size.
     tied-check (leb size 16777216) 7 (λ l.
     tied-done (record { flags = refl; size-of-chunk-0 = refl })))))))))))))
-
--- IV.A.1.b, an entry; of its flags only bits 0 and 2 may be set (entries 10 and 11)
-pub record SamePrefix (ours : Prefix) (theirs : MessagePrefix) : Type 0 where
-  pub header-message-type : ours .kind ≡ theirs .header-message-type
-  pub size-of-header-message-data : ours .size ≡ theirs .size-of-header-message-data
-  pub header-message-flags : ours .flags ≡ theirs .header-message-flags
 
 creation-order-tied : (header-flags : ℕ) → Tied (λ _ _. Unit {0}) (creationOrder header-flags) (optional (bit header-flags 2) 2)
 unfolding creationOrder optional

@@ -8,7 +8,6 @@ use lib.ListN.{length}
 use Rattle.format.specs.Format.{nothing, Stands}
 use Rattle.format.specs.Standing.{stands-check}
 use Rattle.parser.specs.declared.State.{State}
-use Rattle.grammar.specs.Message.{Message, rowOf}
 use Rattle.grammar.specs.Grammar.{Item, headerEnd}
 use Rattle.grammar.specs.Table.{messagesOf, messages}
 use Rattle.grammar.specs.TableLaws.{messagesOf-append}
@@ -18,64 +17,23 @@ use Rattle.lookup3.specs.Laws.{matches-is}
 use Rattle.data_object_header.specs.declared.HeaderFields.{HeaderFields}
 use Rattle.data_object_header.specs.Headers.{HeaderReading}
 use Rattle.standard.specs.Headers.{ObjectHeaderPrefix, objectHeaderPrefix, HeaderMessage}
-use Rattle.standard.specs.Chunks.{ChecksumStands, ObjectHeader}
-use Rattle.standard_header.specs.Prefixes.{SameHeader, header-tied}
-use Rattle.standard_header.specs.Same.{OneByOne, as-many, SameMessage, noContinuations, SameHeld, SameEntries, same-messages}
-use Rattle.standard_header.specs.Bodies.{TextAt, NumberAt, value-row}
-use Rattle.standard_header.specs.Chunks.{ChunkDiffers, ChunkIs, ReadUpTo, MessageIs, EntriesAre, none, a-message, a-continuation, run-is}
-use Rattle.standard_header.specs.Whole.{InBlocks, WholeChunk, whole-chunk}
-
-module _ (file : List ℕ) (s : State) where
-  -- the first chunk by itself; the header ends with the checksum of 4 bytes behind its end e
-  pub record FirstChunkIs (header-flags start e after : ℕ) (own : List Item) : Type 0 where
-    pub chunk : ChunkIs file s header-flags start e own
-    pub end : after ≡ e + 4
-
-  -- The header at a position as a whole: what its messages are, in its first chunk and in its blocks; how many there are; and where it ends.
-  pub record WholeIs (at after count rows : ℕ) (xs : List Item) : Type 0 where
-    pub messages : List HeaderMessage
-    pub header : ObjectHeader file (s .«size_of_offsets») (s .«size_of_lengths») at messages
-    -- the entries are its messages, one by one
-    pub entries : SameEntries file s xs messages
-    pub entry-count : count ≡ length messages
-    -- the messages that have rows are those of them that are no continuations, one by one
-    pub with-rows : OneByOne SameMessage (messagesOf xs) (noContinuations messages)
-    pub row-count : rows ≡ length (noContinuations messages)
-    pub end : after ≡ header .start + header .prefix .size-of-chunk-0 + 4
+use Rattle.standard.specs.Chunks.{ChecksumStands}
+use Rattle.standard_header.specs.Same.{SameHeader, SameMessage, noContinuations, SameHeld}
+use Rattle.standard_header.specs.Prefixes.{header-tied}
+use Rattle.standard_header.specs.SameLaws.{as-many, same-messages}
+use Rattle.standard_header.specs.Bodies.{value-row}
+use Rattle.standard_header.specs.Differences.{ChunkDiffers, InBlocks}
+use Rattle.standard_header.specs.HeaderIs.{EntriesAre, none, a-message, a-continuation, FirstChunkIs, WholeIs, HeaderIs, RowIs}
+use Rattle.standard_header.specs.Chunks.{ReadUpTo, run-is}
+use Rattle.standard_header.specs.Whole.{WholeChunk, whole-chunk}
 
 module _ (file : List ℕ) (s : State) (longest : ℕ) where
-  -- A header at a position, up to the next, with its fields, its entries and those of its blocks in the reading's order, and numbers of entries and rows.
-  pub record HeaderIs (at after count rows : ℕ) (fields : HeaderFields) (xs : List Item) : Type 0 where
-    pub prefix : ObjectHeaderPrefix
-    pub start : ℕ
-    pub prefix-stands : Stands file objectHeaderPrefix at start prefix
-    pub prefix-same : SameHeader fields prefix
-    -- its checksum, whichever difference applies
-    pub checksum-stands : ChecksumStands file at (start + prefix .size-of-chunk-0)
-    -- its first chunk by itself, with the entries that are read there, unless a difference applies in it
-    pub own : List Item
-    pub first-chunk : ChunkDiffers file s (prefix .flags) start (start + prefix .size-of-chunk-0) ⊎ FirstChunkIs file s (prefix .flags) start (start + prefix .size-of-chunk-0) after own
-    -- each entry, and each block by itself
-    pub entries : EntriesAre file s longest (prefix .flags) own xs
-    -- as a whole, unless a difference applies in its first chunk or in a block
-    pub whole : (ChunkDiffers file s (prefix .flags) start (start + prefix .size-of-chunk-0) ⊎ InBlocks file s (prefix .flags) xs) ⊎ WholeIs file s at after count rows xs
-
-  -- each message, by itself
-  pub record RowIs (header-flags : ℕ) (m : Message) : Type 0 where
-    pub from : ℕ
-    pub upto : ℕ
-    pub is : MessageIs file s longest header-flags from upto m
-    -- an attribute's row has the text that the specification's message has
-    pub text : m .type ≡ 12 → TextAt file s (m .body) (is .in-entry .fields-end) (rowOf m .part)
-    -- and the number
-    pub number : m .type ≡ 12 → NumberAt file s (m .body) (is .in-entry .fields-end) (rowOf m .«number_case») (rowOf m .«number_bits»)
-
-  pub each-message : {header-flags : ℕ} {own all : List Item} → EntriesAre file s longest header-flags own all → All (RowIs header-flags) (messagesOf all)
-  each-message {header-flags} h = elim h as (λ own all y. All (RowIs header-flags) (messagesOf all)) [
+  pub each-message : {header-flags : ℕ} {own all : List Item} → EntriesAre file s longest header-flags own all → All (RowIs file s longest header-flags) (messagesOf all)
+  each-message {header-flags} h = elim h as (λ own all y. All (RowIs file s longest header-flags) (messagesOf all)) [
     | none ↦ tt
     | a-message {p = p} {q = q} x (r → f) ↦ (record { from = p; upto = q; is = x; text = λ e. value-row file s longest (x .body-of) e .0; number = λ e. value-row file s longest (x .body-of) e .1 }, f)
     | a-continuation {all = all} {block-all = is} x b (r → g) (t → f) ↦
-        subst (All (RowIs header-flags)) (sym (messagesOf-append is all)) (all-append (RowIs header-flags) (messagesOf is) (messagesOf all) g f)
+        subst (All (RowIs file s longest header-flags)) (sym (messagesOf-append is all)) (all-append (RowIs file s longest header-flags) (messagesOf is) (messagesOf all) g f)
   ]
 
   -- as a whole, where the first chunk is the specification's
@@ -101,11 +59,11 @@ module _ (file : List ℕ) (s : State) (longest : ℕ) where
   -- what is read, in the specification's words
   header-of : (at start after last : ℕ) (own xs : List Item) (f : HeaderFields) (x : ObjectHeaderPrefix) → Stands file objectHeaderPrefix at start x → SameHeader f x
       → after ≡ max last (start + f .size) + 4 → ChecksumStands file at (start + f .size) → ReadUpTo file s (f .flags) start (start + f .size) last own → EntriesAre file s longest (f .flags) own xs
-      → HeaderIs at after (length xs) (messages xs) f xs
+      → HeaderIs file s longest at after (length xs) (messages xs) f xs
   header-of at start after last own xs f x h r e i c m = go (rw (r .size-of-chunk-0) at e) (rw (r .size-of-chunk-0) at i) (rw (r .flags, r .size-of-chunk-0) at c) (rw (r .flags) at m)
     where
       go : after ≡ max last (start + x .size-of-chunk-0) + 4 → ChecksumStands file at (start + x .size-of-chunk-0) → ReadUpTo file s (x .flags) start (start + x .size-of-chunk-0) last own
-          → EntriesAre file s longest (x .flags) own xs → HeaderIs at after (length xs) (messages xs) f xs
+          → EntriesAre file s longest (x .flags) own xs → HeaderIs file s longest at after (length xs) (messages xs) f xs
       go e k (inl d) m = record { prefix = x; start = start; prefix-stands = h; prefix-same = r; checksum-stands = k; own = own; first-chunk = inl d; entries = m; whole = inl (inl d) }
       go e k (inr y) m =
           let c : FirstChunkIs file s (x .flags) start (start + x .size-of-chunk-0) after own = record { chunk = y .1; end = omega (arith, y .0) } in
@@ -124,7 +82,7 @@ module _ (file : List ℕ) (s : State) (longest : ℕ) where
       (omega (arith, c .1 .0), (omega (arith, h .1 .0), matches-is file o e (c .0)))
 
   module _ (enough : 4095 ≤ longest) where
-    pub reading-is : {at after : ℕ} {xs : List Item} (h : HeaderReading file s at after xs) → HeaderIs at after (length xs) (messages xs) (h .fields) xs
+    pub reading-is : {at after : ℕ} {xs : List Item} (h : HeaderReading file s at after xs) → HeaderIs file s longest at after (length xs) (messages xs) (h .fields) xs
     reading-is {at} {after} {xs} h =
         let y = header-tied .ties file at (h .start) (h .fields) (h .head) in
         let c = closing at (h .start + h .fields .size) (h .rest .last) after (h .rest .close) in

@@ -1,19 +1,30 @@
--- What the entries of a reading have of the specification's header messages, one by one: so many of them, and so many that are no continuations.
--- Assumes nothing.
-use Prim.Native.Nat.{ℕ, suc}
-use mathlib.Core.Path.{_≡_, refl, ap}
-use mathlib.Core.List.{List, [], _∷_, _++_}
+-- What is read of a header, of an entry and of a continuation, beside the specification's fields; and the entries of a reading beside its header messages,
+-- one by one. Entries are those of docs/DIFFERENCES.md, part one. Assumes nothing: these are definitions.
+use Prim.Native.Nat.{ℕ}
+use mathlib.Core.Path.{_≡_}
+use mathlib.Core.List.{List, [], _∷_}
 use lib.ListN.{length}
 use lib.Dec.{eqb}
-use borrow.Author.Tests.{ne-eqb}
 use Rattle.format.specs.Format.{pick}
 use Rattle.parser.specs.declared.State.{State}
 use Rattle.grammar.specs.Message.{Message, Held, message, continuation}
 use Rattle.grammar.specs.Grammar.{Item}
-use Rattle.grammar.specs.Table.{messageOf, messagesOf}
 use Rattle.standard.specs.Tie.{Stood}
-use Rattle.standard.specs.Headers.{HeaderMessage, continuationMessage}
-use Rattle.standard_messages.specs.Infos.{SameContinuation}
+use Rattle.standard.specs.Headers.{HeaderMessage, continuationMessage, ObjectHeaderPrefix, MessagePrefix}
+use Rattle.standard_messages.specs.Same.{SameContinuation}
+use Rattle.ohdr_entry.specs.declared.Prefix.{Prefix}
+use Rattle.data_object_header.specs.declared.HeaderFields.{HeaderFields}
+
+-- IV.A.1.b, the header; of its flags bit 4 is refused (entry 6), bits 6 and 7 have no effect (7)
+pub record SameHeader (ours : HeaderFields) (theirs : ObjectHeaderPrefix) : Type 0 where
+  pub flags : ours .flags ≡ theirs .flags
+  pub size-of-chunk-0 : ours .size ≡ theirs .size-of-chunk-0
+
+-- IV.A.1.b, an entry; of its flags only bits 0 and 2 may be set (entries 10 and 11)
+pub record SamePrefix (ours : Prefix) (theirs : MessagePrefix) : Type 0 where
+  pub header-message-type : ours .kind ≡ theirs .header-message-type
+  pub size-of-header-message-data : ours .size ≡ theirs .size-of-header-message-data
+  pub header-message-flags : ours .flags ≡ theirs .header-message-flags
 
 -- as many of both, and R holds of each two in the same place
 abbrev pub OneByOne : {A B : Type 0} → (A → B → Type 0) → List A → List B → Type 0
@@ -21,18 +32,6 @@ OneByOne R [] [] = Unit {0}
 OneByOne R [] (y ∷ ys) = ⊥
 OneByOne R (x ∷ xs) [] = ⊥
 OneByOne R (x ∷ xs) (y ∷ ys) = R x y × OneByOne R xs ys
-
-pub as-many : {A B : Type 0} (R : A → B → Type 0) (xs : List A) (ys : List B) → OneByOne R xs ys → length xs ≡ length ys
-as-many R [] [] h = refl
-as-many R [] (y ∷ ys) h = absurd h
-as-many R (x ∷ xs) [] h = absurd h
-as-many R (x ∷ xs) (y ∷ ys) h = ap suc (as-many R xs ys (h .1))
-
-pub one-by-one-append : {A B : Type 0} (R : A → B → Type 0) (xs vs : List A) (ys ws : List B) → OneByOne R xs ys → OneByOne R vs ws → OneByOne R (xs ++ vs) (ys ++ ws)
-one-by-one-append R [] vs [] ws h k = k
-one-by-one-append R [] vs (y ∷ ys) ws h k = absurd h
-one-by-one-append R (x ∷ xs) vs [] ws h k = absurd h
-one-by-one-append R (x ∷ xs) vs (y ∷ ys) ws h k = (h .0, one-by-one-append R xs vs ys ws (h .1) k)
 
 -- a message of a reading and a header message, which is no continuation
 pub record SameMessage (m : Message) (x : HeaderMessage) : Type 0 where
@@ -61,17 +60,3 @@ module _ (file : List ℕ) (s : State) where
 
   abbrev pub SameEntries : List Item → List HeaderMessage → Type 0
   SameEntries is xs = OneByOne (λ (i : Item) (x : HeaderMessage). SameHeld (i .held) x) is xs
-
-  pub same-append : (is js : List Item) (xs ys : List HeaderMessage) → SameEntries is xs → SameEntries js ys → SameEntries (is ++ js) (xs ++ ys)
-  same-append is js xs ys h k = one-by-one-append (λ (i : Item) (x : HeaderMessage). SameHeld (i .held) x) is js xs ys h k
-
-  -- so the messages of a reading are the header messages that are no continuations
-  pub same-messages : (is : List Item) (xs : List HeaderMessage) → SameEntries is xs → OneByOne SameMessage (messagesOf is) (noContinuations xs)
-  same-messages [] [] h = tt
-  same-messages [] (x ∷ xs) h = absurd h
-  same-messages (i ∷ is) [] h = absurd h
-  same-messages (i ∷ is) (x ∷ xs) h = go (i .held) (h .0) (same-messages is xs (h .1))
-    where
-      go : (v : Held) → SameHeld v x → OneByOne SameMessage (messagesOf is) (noContinuations xs) → OneByOne SameMessage (messageOf v (messagesOf is)) (noContinuations (x ∷ xs))
-      go (message m) a b = rw (ne-eqb (x .prefix .header-message-type) 16 (a .no-continuation)) (a, b)
-      go (continuation o l) a b = rw (a .header-message-type) b

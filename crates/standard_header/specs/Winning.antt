@@ -1,5 +1,4 @@
--- The records that a header gives are the specification's messages, each the last of its type.
--- Entries are those of docs/DIFFERENCES.md, part one. Assumes nothing.
+-- The records that a header gives are the specification's messages, each the last of its type. Assumes nothing.
 use Prim.Native.Nat.{ℕ, _≤_}
 use mathlib.Core.Path.{_≡_, refl, sym, _∙_}
 use mathlib.Core.Logic.{_⊎_, inl, inr}
@@ -27,21 +26,9 @@ use Rattle.data_object_header.specs.Headers.{HeaderReading}
 use Rattle.data_object_winners.specs.Wins.{Wins, win, winsAfter, winsOf, defaults}
 use Rattle.data_object_winners.specs.Winners.{valueOr}
 use Rattle.data_object_winners.specs.WinnerLaws.{typeOf, typed, Won, all-bodied, space-won, type-won, link-won, group-won, info-won, layout-won}
-use Rattle.standard_header.specs.Bodies.{SpaceAt, space-at, LinkInfoAt, link-info-at, TypeAt, type-at, LayoutAt, layout-at, GroupInfoAt, group-info-at, AttributeInfoAt, attribute-info-at}
-
--- no message of a type
-abbrev pub NoneOf : ℕ → List Message → Type 0
-NoneOf n [] = Unit {0}
-NoneOf n (m ∷ ms) = (m .type ≡ n → ⊥) × NoneOf n ms
-
--- the last message of a type is there, and of its body and the record X holds
-pub data LastOf {A : Type 0} (n : ℕ) (X : ℕ → ℕ → A → Type 0) (a : A) : List Message → Type 0 where
-  last : {m : Message} {ms : List Message} → m .type ≡ n → NoneOf n ms → (q : ℕ) → X (m .body) q a → LastOf n X a (m ∷ ms)
-  before : {m : Message} {ms : List Message} → LastOf n X a ms → LastOf n X a (m ∷ ms)
-
--- a record that is handed out: that of the last message of its type, or its default where there is none (entries 80 and 81)
-abbrev pub Given : {A : Type 0} → ℕ → (ℕ → ℕ → A → Type 0) → A → A → List Message → Type 0
-Given n X a₀ a ms = LastOf n X a ms ⊎ (NoneOf n ms × (a ≡ a₀))
+use Rattle.standard_header.specs.Is.{SpaceAt, LinkInfoAt, TypeAt, LayoutAt, GroupInfoAt, AttributeInfoAt}
+use Rattle.standard_header.specs.Bodies.{space-at, link-info-at, type-at, layout-at, group-info-at, attribute-info-at}
+use Rattle.standard_header.specs.HeaderIs.{NoneOf, last, before, Given, WinsAre}
 
 module _ (file : List ℕ) (s : State) where
   -- a record of a message that stands
@@ -78,16 +65,7 @@ module _ (file : List ℕ) (s : State) where
       more (inl l) = inl (before l)
       more (inr z) = by-type (eqb (m .type) n) refl (z .0) (z .1)
 
-  -- the records that a header with these messages gives
-  pub record WinsAre (longest : ℕ) (ms : List Message) (w : Wins) : Type 0 where
-    pub dataspace : Given 1 (SpaceAt file s) defaultDataSpace (w .ds) ms
-    pub link-info : Given 2 (LinkInfoAt file s) defaultLinkInfo (w .li) ms
-    pub datatype : Given 3 (TypeAt file longest) defaultDataType (w .dt) ms
-    pub data-layout : Given 8 (LayoutAt file s) defaultDataLayout (w .layout) ms
-    pub group-info : Given 10 (GroupInfoAt file) defaultGroupInfo (w .gi) ms
-    pub attribute-info : Given 21 (AttributeInfoAt file s) defaultAttributeInfo (w .ai) ms
-
-  pub wins-are : (longest : ℕ) → 4095 ≤ longest → (ms : List Message) → All (Bodied file s) ms → WinsAre longest ms (winsOf ms)
+  pub wins-are : (longest : ℕ) → 4095 ≤ longest → (ms : List Message) → All (Bodied file s) ms → WinsAre file s longest ms (winsOf ms)
   unfolding body plainBody layoutBody
   wins-are longest enough ms b =
       record {
@@ -99,5 +77,5 @@ module _ (file : List ℕ) (s : State) where
         attribute-info = given-after 21 (attributeInfo s) messages.attributeInfo (AttributeInfoAt file s) defaultAttributeInfo (λ w. w .ai) (info-won file s) refl (attribute-info-at file s) ms b defaults;
       }
 
-  pub reading-wins : (longest : ℕ) → 4095 ≤ longest → {at after : ℕ} {xs : List Item} → HeaderReading file s at after xs → WinsAre longest (messagesOf xs) (winsOf (messagesOf xs))
+  pub reading-wins : (longest : ℕ) → 4095 ≤ longest → {at after : ℕ} {xs : List Item} → HeaderReading file s at after xs → WinsAre file s longest (messagesOf xs) (winsOf (messagesOf xs))
   reading-wins longest enough {xs = xs} h = wins-are longest enough (messagesOf xs) (all-bodied file s h)

@@ -10,20 +10,13 @@ use borrow.Author.Tests.{eq-eqb, eqb-true}
 use Rattle.format.specs.Bytes.{AreBytes, le, allOnes}
 use Rattle.format.specs.BytesLaws.{bytes-all-ones, all-ones-bytes}
 use Rattle.format.specs.Format.{bind, pick, done}
-use Rattle.records.specs.declared.Address.{Address}
 use Rattle.records.specs.declared.Address.the-variants as addresses
-use Rattle.records.specs.declared.OptionAddress.{OptionAddress}
 use Rattle.records.specs.declared.OptionAddress.the-variants as optionAddresses
 use Rattle.helpers.specs.Addresses.{address, addressOf, defined, definedAddress}
-use Rattle.ohdr_info.specs.Info.{condAddress, someAddress}
-use Rattle.standard.specs.Fields.{Optional, absent, present}
+use Rattle.ohdr_info.specs.Info.{condAddress}
 use Rattle.standard.specs.Fields as standard
 use Rattle.standard.specs.Tie.{Tied, tied-done, tied-number, tied-refuse}
-
--- the same address
-abbrev pub addressIn : standard.Address → Address
-addressIn standard.undefined = addresses.Undefined
-addressIn (standard.defined n) = addresses.Number n
+use Rattle.standard_messages.specs.Same.{addressIn, SameAddress}
 
 pub address-of : (w n : ℕ) → addressOf w n ≡ addressIn (standard.addressOf w n)
 address-of w n = go (eqb n (allOnes w))
@@ -56,20 +49,6 @@ defined-address-tied w refusal = tied-number (λ n. go n (eqb n (allOnes w)))
     go : (n : ℕ) (t : Bool) → Tied (λ m theirs. theirs ≡ standard.defined m) (defined refusal (pick t addresses.Undefined (addresses.Number n))) (done (pick t standard.undefined (standard.defined n)))
     go n true = tied-refuse
     go n false = tied-done refl
-
--- the same field, missing or there; and one that is the number zero where it is missing
-abbrev pub optionAddress : Optional standard.Address → OptionAddress
-optionAddress absent = optionAddresses.None
-optionAddress (present a) = optionAddresses.Some (addressIn a)
-
-abbrev pub orZeroAddress : Optional standard.Address → Address
-orZeroAddress absent = addresses.Number 0
-orZeroAddress (present a) = addressIn a
-
--- what is read of an address by a flag, and the specification's field
-pub record SameAddress (test : Bool) (a : Address) (o : Optional standard.Address) : Type 0 where
-  pub zero : a ≡ orZeroAddress o
-  pub some : someAddress test a ≡ optionAddress o
 
 pub tied-cond-address : (test : Bool) (w : ℕ) → Tied (SameAddress test) (condAddress test w) (standard.optionalAddress test w)
 unfolding bind condAddress address standard.address standard.optionalAddress

@@ -13,7 +13,6 @@ use borrow.Author.Tests.{eqb-true, leb-true, not-true}
 use Rattle.format.specs.Bits.{bit}
 use Rattle.format.specs.Bytes.{allOnes}
 use Rattle.format.specs.Format.{Format, done, number, bind, pick}
-use Rattle.records.specs.Defaults.{noDimensions}
 use Rattle.records.specs.Elements.{elementsBy, elementsOf, countOf}
 use Rattle.records.specs.Elements as ours
 use Rattle.records.specs.declared.OptionU8.the-variants as options8
@@ -24,45 +23,9 @@ use Rattle.ohdr_dataspace.specs.DataSpaces.{dimension, dimensionsFrom, dimensio
 use Rattle.standard.specs.Fields.{many}
 use Rattle.standard.specs.Tie.{Tied, tied-done, tied-number, tied-skip-number, tied-check, tied-bind, tied-more, tied-after}
 use Rattle.standard.specs.Versions.{ofVersion, marked, tied-of-version, tied-version, tied-marked}
-use Rattle.standard.specs.Dataspaces.{Stored, not-stored, stored, storedSizes, Dataspace1, dataspace1, Dataspace2, dataspace2, Dataspace, version-1, version-2, dataspaceMessage, product, elements}
-
--- the sizes of the dimensions
-pub record SameSizes (ours : Dimensions) (theirs : List ℕ) : Type 0 where
-  pub number-of-sizes : ours .count ≡ length theirs
-  pub size : take (ours .count) (ours .sizes) ≡ theirs
-
--- the maximum sizes: none where they are not stored (entry 23); one that is unlimited is the number that all ones are (22)
-abbrev pub SameMaximum : Dimensions → Stored → Type 0
-SameMaximum ours not-stored = ours ≡ noDimensions
-SameMaximum ours (stored sizes) = SameSizes ours sizes
-
--- the elements of a dataspace are not those of the standard's
-pub data ElementsDiffer : Dataspace → Type 0 where
-  -- 26: a scalar dataspace with sizes, which here has as many elements as they make
-  scalar-with-sizes : {x : Dataspace2} → x .type ≡ 0 → (x .dimension-size ≡ [] → ⊥) → ElementsDiffer (version-2 x)
-
--- IV.A.2.b, version 1; reserved bits of the flags are kept, reserved bytes passed over (entry 25); permutation indices are refused (24)
-pub record SameDataspace1 (ours : DataSpace) (theirs : Dataspace1) : Type 0 where
-  pub dimensionality : ours .dimensionality ≡ theirs .dimensionality
-  pub flags : ours .flags ≡ theirs .flags
-  pub no-type : ours .kind ≡ options8.None
-  pub dimension-size : SameSizes (ours .«dimension_size») (theirs .dimension-size)
-  pub dimension-maximum-size : SameMaximum (ours .«dimension_max_size») (theirs .dimension-maximum-size)
-  pub no-permutation-index : theirs .permutation-index ≡ not-stored
-  pub elements : ours .elements ≡ countOf (elements (version-1 theirs))
-
--- version 2; reserved bits of the flags are kept (entry 25), and the type is not tested (26); a null dataspace has no elements
-pub record SameDataspace2 (ours : DataSpace) (theirs : Dataspace2) : Type 0 where
-  pub dimensionality : ours .dimensionality ≡ theirs .dimensionality
-  pub flags : ours .flags ≡ theirs .flags
-  pub type : ours .kind ≡ options8.Some (theirs .type)
-  pub dimension-size : SameSizes (ours .«dimension_size») (theirs .dimension-size)
-  pub dimension-maximum-size : SameMaximum (ours .«dimension_max_size») (theirs .dimension-maximum-size)
-  pub elements : ElementsDiffer (version-2 theirs) ⊎ (ours .elements ≡ countOf (elements (version-2 theirs)))
-
-abbrev pub SameDataspace : DataSpace → Dataspace → Type 0
-SameDataspace ours (version-1 x) = SameDataspace1 ours x
-SameDataspace ours (version-2 x) = SameDataspace2 ours x
+use Rattle.standard.specs.Dataspaces.{Stored, not-stored, stored, storedSizes, dataspace1, Dataspace2, dataspace2, Dataspace, version-1, version-2, dataspaceMessage, product, elements}
+use Rattle.standard_messages.specs.Differences.{ElementsDiffer, scalar-with-sizes}
+use Rattle.standard_messages.specs.Same.{SameSizes, SameMaximum, SameDataspace1, SameDataspace2, SameDataspace}
 
 -- the two products are one
 product-same : (ns : List ℕ) → ours.product ns ≡ product ns
@@ -96,6 +59,15 @@ counted-by d x s = ⊎-elim inl (λ e. inr (ap countOf e)) (elements-by d x s)
 pub elements-same : (d : DataSpace) (b : Dataspace) → SameDataspace d b → ElementsDiffer b ⊎ (elementsOf d ≡ elements b)
 elements-same d (version-1 x) h = inr (rw (h .no-type) (sizes-product (d .«dimension_size») (x .dimension-size) (h .dimension-size)))
 elements-same d (version-2 x) h = rw (h .type) (elements-by (d .«dimension_size») x (h .dimension-size))
+
+-- the same where it is no scalar dataspace with sizes
+module _ (d : DataSpace) where
+  pub elements-of : (b : Dataspace) → SameDataspace d b → (ElementsDiffer b → ⊥) → elementsOf d ≡ elements b
+  elements-of b h f = ⊎-elim (λ x. absurd (f x)) (λ e. e) (elements-same d b h)
+
+  pub elements-counted : (b : Dataspace) → SameDataspace d b → (ElementsDiffer b → ⊥) → d .elements ≡ countOf (elements b)
+  elements-counted (version-1 x) h f = h .elements
+  elements-counted (version-2 x) h f = ⊎-elim (λ x. absurd (f x)) (λ e. e) (h .elements)
 
 -- one size
 dimension-tied : (w : ℕ) (maximum : Bool) → Tied _≡_ (dimension w maximum) (number w done)

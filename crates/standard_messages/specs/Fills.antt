@@ -18,15 +18,8 @@ use Rattle.standard.specs.Fields.{only}
 use Rattle.standard.specs.Tie.{Tied, TiedBut, Stood, tied-done, tied-number, tied-check, tied-only, tied-raw}
 use Rattle.standard.specs.Versions.{version-stands, marked, marked-stands, tied-marked}
 use Rattle.standard.specs.Storage.{sizeAndFillValue, FillFields12, fillFields12, FillValue12, fillValue12, ValidFillValue12, fillValue3, FillValue, versions-1-and-2, version-3, fillValueMessage}
-
--- nothing of the message is handed out; its values are allowed ones in versions 1 and 2, and not tested in version 3 (entry 65)
-abbrev pub ValidFill : FillValue → Type 0
-ValidFill (versions-1-and-2 x) = ValidFillValue12 x
-ValidFill (version-3 x) = Unit {0}
-
--- version 1 and no value defined: the size, which the specification has there, is not read (entry 64)
-pub data FillDiffers (s : List ℕ) (p : ℕ) : Type 0 where
-  undefined-in-version-1 : (x : FillFields12) → Stands s fillFields12 p (p + 4) x → x .version ≡ 1 → x .fill-value-defined ≡ 0 → FillDiffers s p
+use Rattle.standard_messages.specs.Same.{ValidFill}
+use Rattle.standard_messages.specs.Differences.{FillDiffers, undefined-in-version-1}
 
 -- a size, and so many bytes
 value-tied : (test : Bool) → test ≡ true → Tied (λ _ _. Unit {0}) fillValue (sizeAndFillValue test)

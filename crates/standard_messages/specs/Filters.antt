@@ -17,36 +17,10 @@ use Rattle.ohdr_storage.specs.Storage.{paddedName, filter1, filter2, filterOf, 
 use Rattle.standard.specs.Fields.{absent, present, optional, raw, many}
 use Rattle.standard.specs.Tie.{Tied, TiedBut, Stood, Among, Every, but-times, tied-done, tied-raw, tied-skip-many, tied-skip-none, tied-skip-number, tied-more, onward}
 use Rattle.standard.specs.Versions.{version-stands, marked, marked-stands, tied-marked}
-use Rattle.standard.specs.Storage.{FilterFields1, filterFields1, FilterDescription1, filterDescription1, PipelineFields1, pipelineFields1, FilterPipeline1, filterPipeline1, ValidFilterPipeline1}
-use Rattle.standard.specs.Storage.{FilterFields2, filterFields2, orNone, FilterDescription2, filterDescription2, PipelineFields2, pipelineFields2, filterPipeline2, ValidFilterPipeline2}
-use Rattle.standard.specs.Storage.{FilterPipeline, version-1, version-2, filterPipelineMessage}
-
--- a filter of version 1 whose name is passed over by another length: one that is no multiple of 8 (entry 73), and one of 65,529 or more (74)
-pub data FilterDiffers1 (s : List ℕ) (p : ℕ) : Type 0 where
-  no-multiple-of-8 : (x : FilterFields1) → Stands s filterFields1 p (p + 8) x → (x .name-length % 8 ≡ 0 → ⊥) → FilterDiffers1 s p
-  from-65529 : (x : FilterFields1) → Stands s filterFields1 p (p + 8) x → 65529 ≤ x .name-length → FilterDiffers1 s p
-
--- a filter of version 2 whose name is not passed over: one with an identification of 256 or more (entry 72)
-pub data FilterDiffers2 (s : List ℕ) (p : ℕ) : Type 0 where
-  with-a-name : (identification : ℕ) → Stands s (number 2 done) p (p + 2) identification → 256 ≤ identification → FilterDiffers2 s p
-
--- so many filters stand, and the next one differs
-pub data PipelineDiffers (s : List ℕ) (p : ℕ) : Type 0 where
-  in-version-1 : (m : ℕ) (x : PipelineFields1) → Stands s pipelineFields1 p m x → Among FilterDiffers1 filterDescription1 s (x .number-of-filters) m → PipelineDiffers s p
-  in-version-2 : (m : ℕ) (x : PipelineFields2) → Stands s pipelineFields2 p m x → Among FilterDiffers2 filterDescription2 s (x .number-of-filters) m → PipelineDiffers s p
-
--- of what is asked of a filter of version 1 this alone is known of one that does not differ (76 has the rest): the length of its name
-abbrev pub NamePadded : FilterDescription1 → Type 0
-NamePadded x = x .fields .name-length % 8 ≡ 0
-
--- nothing of a pipeline is handed out; the values of its own fields are allowed ones, and those of filters of version 2 are not tested (76)
-pub record ValidPipeline1 (x : FilterPipeline1) : Type 0 where
-  pub fields-valid : ValidFilterPipeline1 x
-  pub names-padded : Every NamePadded (x .filter-description-list)
-
-abbrev pub ValidPipeline : FilterPipeline → Type 0
-ValidPipeline (version-1 x) = ValidPipeline1 x
-ValidPipeline (version-2 x) = ValidFilterPipeline2 x
+use Rattle.standard.specs.Storage.{FilterFields1, filterFields1, FilterDescription1, filterDescription1, PipelineFields1, pipelineFields1, filterPipeline1}
+use Rattle.standard.specs.Storage.{FilterFields2, filterFields2, orNone, FilterDescription2, filterDescription2, PipelineFields2, pipelineFields2, filterPipeline2, ValidFilterPipeline2, version-1, version-2, filterPipelineMessage}
+use Rattle.standard_messages.specs.Differences.{FilterDiffers1, no-multiple-of-8, from-65529, FilterDiffers2, with-a-name, PipelineDiffers, in-version-1, in-version-2}
+use Rattle.standard_messages.specs.Same.{NamePadded, ValidPipeline1, ValidPipeline}
 
 -- four bytes more where the number of values is odd
 padding-tied : (n : ℕ) → Tied (λ _ _. Unit {0}) (skip (4 * (n % 2)) nothing) (optional (eqb (n % 2) 1) 4)
@@ -75,7 +49,7 @@ rest2-tied : (x : FilterFields2) (k : ℕ) → k ≡ 0
 rest2-tied x k e = rw e (tied-raw (λ name _. tied-skip-many 4 (x .number-client-data-values) (λ client-data. tied-done tt)))
 
 -- a name length that is passed over as it stands
-padded-same : (n : ℕ) → n % 8 ≡ 0 → n < 65529 → paddedName n ≡ n
+pub padded-same : (n : ℕ) → n % 8 ≡ 0 → n < 65529 → paddedName n ≡ n
 padded-same n e h = omega arith
 
 module _ (s : List ℕ) where

@@ -7,22 +7,19 @@ use lib.Dec.{eqb, leb}
 use Rattle.format.specs.Bits.{bit}
 use Rattle.format.specs.Format.{done, number, bind, check}
 use Rattle.records.specs.declared.Address.{Address}
-use Rattle.records.specs.declared.LinkInfo.{LinkInfo}
-use Rattle.records.specs.declared.GroupInfo.{GroupInfo}
-use Rattle.records.specs.declared.AttributeInfo.{AttributeInfo}
 use Rattle.helpers.specs.Addresses.{address}
 use Rattle.parser.specs.declared.State.{State}
 use Rattle.parser.specs.States.{addressValid}
-use Rattle.ohdr_entry.specs.declared.Continuation.{Continuation}
 use Rattle.ohdr_info.specs.Info.{cond, condAddress, linkInfo, groupInfo, attributeInfo}
 use Rattle.ohdr_entry.specs.Continuations.{continuation}
 use Rattle.standard.specs.Fields as standard
 use Rattle.standard.specs.Fields.{Optional, only, optional}
 use Rattle.standard.specs.Tie.{Tied, tied-done, tied-number, tied-check, tied-only, tied-bind}
-use Rattle.standard.specs.Headers.{ContinuationMessage, continuationMessage}
-use Rattle.standard.specs.Infos.{LinkInfoMessage, linkInfoMessage, GroupInfoMessage, groupInfoMessage, AttributeInfoMessage, attributeInfoMessage}
-use Rattle.standard_messages.specs.Addresses.{addressIn, address-tied, defined-address-tied, optionAddress, orZeroAddress, SameAddress, tied-cond-address}
-use Rattle.standard_messages.specs.Options.{option16, option64, orZero, Same, tied-cond}
+use Rattle.standard.specs.Headers.{continuationMessage}
+use Rattle.standard.specs.Infos.{linkInfoMessage, groupInfoMessage, attributeInfoMessage}
+use Rattle.standard_messages.specs.Addresses.{address-tied, defined-address-tied, tied-cond-address}
+use Rattle.standard_messages.specs.Same.{addressIn, SameAddress, Same, SameLinkInfo, SameGroupInfo, SameAttributeInfo, SameContinuation}
+use Rattle.standard_messages.specs.Options.{tied-cond}
 
 -- flags, a maximum creation index of w bytes where bit 0 brings it, two addresses, and a third where bit 1 does
 indexed-tied : {A B : Type 0} {R : A → B → Type 0} (refusal w offsets : ℕ) (f : ℕ → ℕ → Address → Address → Address → A) (g : ℕ → ℕ → Optional ℕ → standard.Address → standard.Address → Optional standard.Address → B)
@@ -42,14 +39,6 @@ indexed-tied refusal w offsets f g same =
     tied-bind (tied-cond-address (bit flags 1) offsets) (λ c order o.
     tied-done (same version flags n index a heap b names c order i h k o)))))))))
 
--- IV.A.2.c; reserved bits of the flags are kept (entry 68)
-pub record SameLinkInfo (ours : LinkInfo) (theirs : LinkInfoMessage) : Type 0 where
-  pub flags : ours .flags ≡ theirs .flags
-  pub maximum-creation-index : ours .«maximum_creation_index» ≡ option64 (theirs .maximum-creation-index)
-  pub fractal-heap-address : ours .«fractal_heap_address» ≡ addressIn (theirs .fractal-heap-address)
-  pub address-of-v2-b-tree-for-name-index : ours .«address_btree_index» ≡ addressIn (theirs .address-of-v2-b-tree-for-name-index)
-  pub address-of-v2-b-tree-for-creation-order-index : ours .«address_btree_order» ≡ optionAddress (theirs .address-of-v2-b-tree-for-creation-order-index)
-
 pub link-info-tied : (s : State) → Tied SameLinkInfo (linkInfo s) (linkInfoMessage (s .«size_of_offsets»))
 unfolding linkInfo linkInfoMessage
 link-info-tied s =
@@ -60,14 +49,6 @@ link-info-tied s =
       address-of-v2-b-tree-for-name-index = k;
       address-of-v2-b-tree-for-creation-order-index = o .some;
     })
-
--- IV.A.2.k; estimates that are not stored are missing (entry 69), reserved bits of the flags are kept (70)
-pub record SameGroupInfo (ours : GroupInfo) (theirs : GroupInfoMessage) : Type 0 where
-  pub flags : ours .flags ≡ theirs .flags
-  pub link-phase-change-maximum-compact-value : ours .«maximum_compact_value» ≡ option16 (theirs .link-phase-change-maximum-compact-value)
-  pub link-phase-change-minimum-dense-value : ours .«minimum_dense_value» ≡ option16 (theirs .link-phase-change-minimum-dense-value)
-  pub estimated-number-of-entries : ours .«number_of_entries» ≡ option16 (theirs .estimated-number-of-entries)
-  pub estimated-link-name-length-of-entries : ours .«length_of_entries» ≡ option16 (theirs .estimated-link-name-length-of-entries)
 
 pub group-info-tied : Tied SameGroupInfo groupInfo groupInfoMessage
 unfolding groupInfo groupInfoMessage
@@ -88,14 +69,6 @@ group-info-tied =
       estimated-link-name-length-of-entries = l .two;
     })))))))))
 
--- IV.A.2.v; what is not stored is zero (entry 78), reserved bits of the flags are kept (79)
-pub record SameAttributeInfo (ours : AttributeInfo) (theirs : AttributeInfoMessage) : Type 0 where
-  pub flags : ours .flags ≡ theirs .flags
-  pub maximum-creation-index : ours .«maximum_creation_index» ≡ orZero (theirs .maximum-creation-index)
-  pub fractal-heap-address : ours .«fractal_heap_address» ≡ addressIn (theirs .fractal-heap-address)
-  pub attribute-name-v2-b-tree-address : ours .«attribute_name_btree» ≡ addressIn (theirs .attribute-name-v2-b-tree-address)
-  pub attribute-creation-order-v2-b-tree-address : ours .«attribute_creation_order_btree» ≡ orZeroAddress (theirs .attribute-creation-order-v2-b-tree-address)
-
 pub attribute-info-tied : (s : State) → Tied SameAttributeInfo (attributeInfo s) (attributeInfoMessage (s .«size_of_offsets»))
 unfolding attributeInfo attributeInfoMessage
 attribute-info-tied s =
@@ -106,11 +79,6 @@ attribute-info-tied s =
       attribute-name-v2-b-tree-address = k;
       attribute-creation-order-v2-b-tree-address = o .zero;
     })
-
--- IV.A.2.q
-pub record SameContinuation (ours : Continuation) (theirs : ContinuationMessage) : Type 0 where
-  pub offset : theirs .offset ≡ standard.defined (ours .offset)
-  pub length : ours .length ≡ theirs .length
 
 pub continuation-tied : (s : State) → Tied SameContinuation (continuation s) (continuationMessage (s .«size_of_offsets») (s .«size_of_lengths»))
 unfolding continuation continuationMessage

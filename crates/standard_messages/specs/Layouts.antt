@@ -19,32 +19,16 @@ use Rattle.ohdr_storage.specs.Storage.{fillOld, fillValue}
 use Rattle.ohdr_layout.specs.DataLayouts.{contiguousPart, compact, dataFrom, rawData, contiguous, dataLayout}
 use Rattle.standard.specs.Tie.{Tied, tied-done, tied-number, tied-check, tied-only, tied-pick, tied-pick-left, tied-bind, tied-there-left, tied-refuse, tied-raw}
 use Rattle.standard.specs.Versions.{marked, tied-marked}
-use Rattle.standard_messages.specs.Addresses.{addressIn, address-tied}
+use Rattle.standard_messages.specs.Addresses.{address-tied}
+use Rattle.standard_messages.specs.Same.{addressIn, SameContiguous, SameProperties, SameLayout}
 use Rattle.standard.specs.Fields as standard
 use Rattle.standard.specs.Storage as storages
-use Rattle.standard.specs.Storage.{fillValueOld, compactStorage, ContiguousStorage, contiguousStorage, LayoutProperties, layoutProperties, DataLayout3, dataLayout3}
+use Rattle.standard.specs.Storage.{fillValueOld, compactStorage, ContiguousStorage, contiguousStorage, layoutProperties, dataLayout3}
 
 -- IV.A.2.e: nothing of it is handed out
 pub fill-value-old-tied : Tied (λ _ _. Unit {0}) fillOld fillValueOld
 unfolding fillValue fillValueOld
 fill-value-old-tied = tied-number (λ size. tied-raw (λ x e. tied-done tt))
-
--- IV.A.2.i, contiguous storage: the address, and the raw data. Where the address is undefined there are none; where it is 0 (entry 43), or at or
--- past the end-of-file address (44), none are handed out.
-pub record SameContiguous (s : State) (ours : DataLayout) (theirs : ContiguousStorage) : Type 0 where
-  pub address : ours .address ≡ optionAddresses.Some (addressIn (theirs .address))
-  pub raw-data : (a : ℕ) → theirs .address ≡ standard.defined a → addressValid s a ≡ true → 0 < theirs .size → ours .«data» ≡ record { position = a; length = theirs .size }
-  pub no-size : theirs .size ≡ 0 → ours .«data» ≡ emptyPart
-  pub undefined : theirs .address ≡ standard.undefined → ours .«data» ≡ emptyPart
-  pub no-data : (a : ℕ) → theirs .address ≡ standard.defined a → addressValid s a ≡ false → ours .«data» ≡ emptyPart
-
--- compact storage: its raw data are not handed out (entry 41), and have no address
-abbrev pub SameProperties : State → DataLayout → LayoutProperties → Type 0
-SameProperties s ours (storages.compact c) = ours ≡ record { address = optionAddresses.None; «data» = emptyPart }
-SameProperties s ours (storages.contiguous c) = SameContiguous s ours c
-
-abbrev pub SameLayout : State → DataLayout → DataLayout3 → Type 0
-SameLayout s ours theirs = SameProperties s ours (theirs .properties)
 
 compact-tied : Tied (λ ours c. ours ≡ record { address = optionAddresses.None; «data» = emptyPart }) compact compactStorage
 unfolding compact compactStorage

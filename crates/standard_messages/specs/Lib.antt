@@ -1,3 +1,5 @@
+pub mod Differences
+pub mod Same
 pub mod Addresses
 pub mod Options
 pub mod Infos
@@ -7,3 +9,8 @@ pub mod Filters
 pub mod Dataspaces
 pub mod Rules
 pub mod Samples
+pub mod ReadMessages
+pub mod Reads
+pub mod SpaceReads
+pub mod LayoutReads
+pub mod FilterReads

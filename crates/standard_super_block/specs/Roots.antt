@@ -4,7 +4,7 @@ use Prim.Native.Nat.{ℕ, _≤_}
 use mathlib.Core.Path.{_≡_, refl, ap, _∙_}
 use mathlib.Core.List.{List}
 use lib.ListN.{getD}
-use Rattle.format.specs.Format.{Stands, Out, found, refused}
+use Rattle.format.specs.Format.{Out, found, refused}
 use Rattle.format.specs.Laws.{sound}
 use Rattle.records.specs.RefusalLaws.{refusal-positive}
 use Rattle.super_block.specs.declared.SuperBlock.{SuperBlock}
@@ -13,44 +13,22 @@ use Rattle.super_block.specs.Laws.{super-block-read}
 use Rattle.super_block.specs.Positive.{refusal-not-0}
 use Rattle.data_object.specs.declared.Answer.{Answer}
 use Rattle.data_object.specs.declared.Answer.the-variants as answers
-use Rattle.data_object.specs.declared.DataObject.{DataObject}
-use Rattle.data_object_words.specs.Words.{wordsOf}
 use Rattle.data_object_words.specs.Handed.{Handed}
 use Rattle.data_object_root.specs.Root.{HandedBy, HandedRoot}
-use Rattle.standard.specs.Fields.{defined}
-use Rattle.standard.specs.Superblocks.{Superblock, superblock23, ValidChecksum}
-use Rattle.standard_header.specs.Handed.{Standard, decoded-standard}
+use Rattle.standard_header.specs.Handed.{decoded-standard}
+use Rattle.standard_super_block.specs.Is.{RootIs}
 use Rattle.standard_super_block.specs.Ties.{super-block-tied, super-block-checksum}
 
 -- Over a file, a table of n words, which ends as t, with the words w; and the longest name of a member that the specification's formats are asked
 -- for.
 module _ (file : List ℕ) (n longest : ℕ) (t w : List ℕ) where
-  pub record RootIs : Type 0 where
-    -- the superblock at byte 0
-    pub superblock : Superblock
-    pub end : ℕ
-    pub stands : Stands file superblock23 0 end superblock
-    pub checksum : ValidChecksum file end superblock
-    -- its root and its end-of-file address, which are not undefined
-    pub root : ℕ
-    pub root-is : superblock .root-group-object-header-address ≡ defined root
-    pub end-of-file : ℕ
-    pub end-of-file-is : superblock .end-of-file-address ≡ defined end-of-file
-    -- the header at its root address, with its widths and its end-of-file address
-    pub object : DataObject
-    pub words : w ≡ wordsOf object
-    pub next : ℕ
-    pub count : ℕ
-    pub answer : object .answer ≡ answers.Read next count
-    pub header : Standard file (superblock .size-of-offsets) (superblock .size-of-lengths) end-of-file root n longest next count object t
-
   -- of every file that is not refused
-  pub root-standard : 4095 ≤ longest → HandedRoot file n t w → getD w 0 0 ≡ 0 → RootIs
+  pub root-standard : 4095 ≤ longest → HandedRoot file n t w → getD w 0 0 ≡ 0 → RootIs file n longest t w
   root-standard enough h z = by-block (superBlockOf file) refl h
     where
       by-answer : (b : SuperBlock) (q : ℕ) → superBlockOf file ≡ found b q
           → (d : Handed file (b .«size_of_offsets») (b .«size_of_lengths») (b .«end_of_file_address») (b .«root_group_object_header_address») n t w)
-          → (a : Answer) → d .object .answer ≡ a → RootIs
+          → (a : Answer) → d .object .answer ≡ a → RootIs file n longest t w
       by-answer b q e d (answers.Read next count) f =
           let x = super-block-tied .ties file 0 q b (sound file superBlock 0 q b (super-block-read file e .1)) in
           let r = x .related in
@@ -74,7 +52,7 @@ module _ (file : List ℕ) (n longest : ℕ) (t w : List ℕ) where
           }
       by-answer b q e d (answers.Refused y) f = absurd (refusal-positive y (rw (d .words, f) at z))
 
-      by-block : (o : Out SuperBlock) → superBlockOf file ≡ o → HandedBy file n t w o → RootIs
+      by-block : (o : Out SuperBlock) → superBlockOf file ≡ o → HandedBy file n t w o → RootIs file n longest t w
       by-block (found b q) e d = by-answer b q e d (d .object .answer) refl
       by-block (refused r) e d =
           let zero : r ≡ 0 = rw (d .1) at z in

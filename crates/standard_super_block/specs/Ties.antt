@@ -1,6 +1,6 @@
 -- The superblock that is read is the specification's, and a superblock of the specification is read. Entries are those of docs/DIFFERENCES.md,
 -- part one. Assumes nothing.
-use Prim.Native.Nat.{ℕ, _+_, _-_, _≤_}
+use Prim.Native.Nat.{ℕ, _+_, _-_}
 use mathlib.Core.Path.{_≡_, refl, sym, ap, _∙_}
 use mathlib.Core.Bool.{Bool, true, false, _||_}
 use mathlib.Core.List.{List}
@@ -26,16 +26,10 @@ use Rattle.standard.specs.Fields as standard
 use Rattle.standard.specs.Fields.{defined}
 use Rattle.standard.specs.Tie.{Tied, tied-done, tied-number, tied-check, tied-only, tied-bind}
 use Rattle.standard.specs.Superblocks.{Superblock, signature, superblock23, ValidChecksum}
-use Rattle.standard_messages.specs.Addresses.{addressIn, address-of, address-tied, defined-address-tied}
-
--- each value that is handed on is the field of that name
-pub record SameSuperBlock (ours : SuperBlock) (theirs : Superblock) : Type 0 where
-  pub size-of-offsets : ours .«size_of_offsets» ≡ theirs .size-of-offsets
-  pub size-of-lengths : ours .«size_of_lengths» ≡ theirs .size-of-lengths
-  pub base-address : theirs .base-address ≡ defined (ours .«base_address»)
-  pub superblock-extension-address : ours .«superblock_extension_address» ≡ addressIn (theirs .superblock-extension-address)
-  pub end-of-file-address : theirs .end-of-file-address ≡ defined (ours .«end_of_file_address»)
-  pub root-group-object-header-address : theirs .root-group-object-header-address ≡ defined (ours .«root_group_object_header_address»)
+use Rattle.standard_messages.specs.Addresses.{address-of, address-tied, defined-address-tied}
+use Rattle.standard_messages.specs.Same.{addressIn}
+use Rattle.standard_super_block.specs.Same.{SameSuperBlock}
+use Rattle.standard_super_block.specs.ReadSuperblocks.{ReadSuperblock}
 
 -- zero is no undefined address
 zero-defined : (w n : ℕ) → widthAllowed w ≡ true → n ≡ 0 → standard.addressOf w n ≡ defined n
@@ -74,20 +68,6 @@ super-block-tied =
       end-of-file-address = e;
       root-group-object-header-address = r;
     }))))))))))))))))))
-
--- What is asked of a superblock of the specification up to `end` so that it is read: a file that is not too large (part two, entry 2), widths of 2
--- to 8 bytes (entry 2), a base address of 0 (entry 95), an end-of-file address and a root that are not undefined (entry 97), and the checksum that
--- the specification asks for.
-pub record ReadSuperblock (file : List ℕ) (end : ℕ) (x : Superblock) : Type 0 where
-  pub small : length file ≤ fileLimit
-  pub offsets : widthAllowed (x .size-of-offsets) ≡ true
-  pub lengths : widthAllowed (x .size-of-lengths) ≡ true
-  pub base : x .base-address ≡ defined 0
-  pub end-of-file : ℕ
-  pub end-of-file-defined : x .end-of-file-address ≡ defined end-of-file
-  pub root : ℕ
-  pub root-defined : x .root-group-object-header-address ≡ defined root
-  pub checksum : ValidChecksum file end x
 
 -- the superblock that is handed on of one of the specification
 abbrev handed : Superblock → ℕ → ℕ → SuperBlock

@@ -1,7 +1,7 @@
 -- A dataspace message of the standard is read, over the same bytes and with the same elements, where no value in it is refused. Assumes nothing.
 use Prim.Native.Nat.{ℕ, zero, suc, _+_, _≤_}
 use mathlib.Core.Path.{_≡_, refl, _∙_}
-use mathlib.Core.Logic.{_⊎_, inl, inr, ⊎-elim}
+use mathlib.Core.Logic.{_⊎_, inl, inr}
 use mathlib.Core.Bool.{Bool, true, false, _&&_, _||_}
 use mathlib.Core.List.{List, [], _∷_}
 use native.Mathlib.Omega.{arith}
@@ -10,13 +10,12 @@ use lib.ListN.{length, replicate, set}
 use borrow.Author.Tests.{eq-eqb, le-leb}
 use Rattle.format.specs.Bits.{bit}
 use Rattle.format.specs.Bytes.{le, allOnes}
-use Rattle.format.specs.Format.{Format, done, refuse, number, bind, pick, Stands}
-use Rattle.format.specs.Laws.{unique}
+use Rattle.format.specs.Format.{done, refuse, number, bind, pick, Stands}
 use Rattle.format.specs.Standing.{stands-bind, stands-check, bind-stands}
 use Rattle.records.specs.declared.OptionU8.{OptionU8}
 use Rattle.records.specs.declared.OptionU8.the-variants as options8
 use Rattle.records.specs.Defaults.{noDimensions}
-use Rattle.records.specs.Elements.{elementsOf, elementsBy, countOf}
+use Rattle.records.specs.Elements.{elementsBy, countOf}
 use Rattle.records.specs.declared.Dimensions.{Dimensions}
 use Rattle.records.specs.declared.DataSpace.{DataSpace}
 use Rattle.parser.specs.declared.State.{State}
@@ -24,10 +23,12 @@ use Rattle.ohdr_dataspace.specs.DataSpaces.{dimension, dimensionsFrom, dimensio
 use Rattle.ohdr_dataspace.specs.Answers.{dataSpaceSizes}
 use Rattle.standard.specs.Fields.{many}
 use Rattle.standard.specs.Tie.{Every}
+use Rattle.standard.specs.Converse.{Reads, ReadAs, read-tied}
 use Rattle.standard.specs.Versions.{byVersion, marked}
-use Rattle.standard.specs.Dataspaces.{Stored, not-stored, stored, storedSizes, Dataspace1, dataspace1, Dataspace2, dataspace2, Dataspace, version-1, version-2, dataspaceMessage, elements}
-use Rattle.standard_messages.specs.Dataspaces.{SameDataspace, ElementsDiffer, elements-same, dataspace-tied}
-use Rattle.standard_attribute.specs.ReadValues.{EachStored, ReadSpace}
+use Rattle.standard.specs.Dataspaces.{Stored, not-stored, stored, storedSizes, Dataspace1, dataspace1, Dataspace2, dataspace2, Dataspace, version-1, version-2, dataspaceMessage}
+use Rattle.standard_messages.specs.Dataspaces.{elements-counted, dataspace-tied}
+use Rattle.standard_messages.specs.ReadMessages.{EachStored, ReadSpace}
+use Rattle.standard_messages.specs.Same.{SameSpace}
 
 -- what the port tests of one size
 abbrev allowed : ℕ → Bool → ℕ → Bool
@@ -49,12 +50,8 @@ every f [] h = tt
 every f (n ∷ ns) h = (f n (h .0), every f ns (h .1))
 
 module _ (s : List ℕ) (w : ℕ) where
-  -- a format of ours has a reading from p to q
-  abbrev Reads : {A : Type 0} → Format A → ℕ → ℕ → Type 0
-  Reads {A} F p q = (a : A) × Stands s F p q a
-
   sizes-read : (n : ℕ) (maximum : Bool) (i : ℕ) (sizes : List ℕ) (p q : ℕ) (xs : List ℕ) → Stands s (many n (number w done)) p q xs → Every (λ x. allowed w maximum x ≡ true) xs
-      → Reads (dimensionsFrom n w maximum i sizes) p q
+      → Reads s (dimensionsFrom n w maximum i sizes) p q
   unfolding many dimensionsFrom dimension
   sizes-read zero maximum i sizes p q xs h a = (sizes, (h .0, refl))
   sizes-read (suc n) maximum i sizes p q xs h a =
@@ -66,7 +63,7 @@ module _ (s : List ℕ) (w : ℕ) where
       (r .0, bind-stands s (dimension w maximum) (λ size. dimensionsFrom n w maximum (i + 1) (set sizes i size)) p (b .0) q (b .1) (r .0) (b .2 .0, rw (b .2 .1 .1, d .0) (b .2 .1 .0, refl)) (r .1))
 
   dimensions-read : (n : ℕ) (maximum : Bool) (p q : ℕ) (xs : List ℕ) → Stands s (many n (number w done)) p q xs → Every (λ x. allowed w maximum x ≡ true) xs
-      → Reads (dimensions n w maximum) p q
+      → Reads s (dimensions n w maximum) p q
   unfolding dimensions
   dimensions-read n maximum p q xs h a =
       let r = sizes-read n maximum 0 (replicate 4 0) p q xs h a in (
@@ -75,7 +72,7 @@ module _ (s : List ℕ) (w : ℕ) where
       )
 
   maximum-read : (n : ℕ) (present : Bool) (p q : ℕ) (x : Stored) → Stands s (storedSizes present n w) p q x → EachStored (λ x. allowed w true x ≡ true) x
-      → Reads (maximumSizes n w present) p q
+      → Reads s (maximumSizes n w present) p q
   unfolding storedSizes maximumSizes
   maximum-read n true p q x h a =
       let b = stands-bind s (many n (number w done)) (λ sizes. done (stored sizes)) p q x h in
@@ -86,7 +83,7 @@ module _ (s : List ℕ) (w : ℕ) where
   -- the sizes and the maximum sizes
   rest-read : (dimensionality flags : ℕ) (kind : OptionU8) (p m q : ℕ) (ns : List ℕ) (x : Stored) → Stands s (many dimensionality (number w done)) p m ns
       → Stands s (storedSizes (bit flags 0) dimensionality w) m q x → Every (λ n. n ≤ 1000000) ns → EachStored (λ n. (n ≤ 1000000) ⊎ (n ≡ allOnes w)) x
-      → Reads (dataSpaceSizes w dimensionality flags kind) p q
+      → Reads s (dataSpaceSizes w dimensionality flags kind) p q
   unfolding dataSpaceSizes
   rest-read n flags kind p m q ns x i j a b =
       let d = dimensions-read n false p m ns i (every (size-allowed w) ns a) in
@@ -122,7 +119,7 @@ module _ (s : List ℕ) (w : ℕ) where
   table2-stands p q d a n b c h = (a, rw (le-leb (le s p 1) 4 n) (b, (c, h)))
 
   -- the table of version 1, and that of version 2
-  table1-read : (p q : ℕ) (x : Dataspace1) → Stands s (dataspace1 w) p q x → ReadSpace w (version-1 x) → Reads (dataSpace1 w) (p + 1) q
+  table1-read : (p q : ℕ) (x : Dataspace1) → Stands s (dataspace1 w) p q x → ReadSpace w (version-1 x) → Reads s (dataSpace1 w) (p + 1) q
   unfolding dataspace1
   table1-read p q x h r =
       let n = le s (p + 1) 1 in
@@ -137,7 +134,7 @@ module _ (s : List ℕ) (w : ℕ) where
       let m = rest-read n flags options8.None (p + 1 + 1 + 1 + 1 + 4) (b .0) q (b .1) (d .1) (b .2) (rw u at (d .2)) (a .sizes) (a .maximum-sizes) in
       (m .0, table1-stands (p + 1) q (m .0) (c .1 .0) (a .few) (c .1 .1 .0) (e .0) (c .1 .1 .1 .0) (c .1 .1 .1 .1 .0) (m .1))
 
-  table2-read : (p q : ℕ) (x : Dataspace2) → Stands s (dataspace2 w) p q x → ReadSpace w (version-2 x) → Reads (dataSpace2 w) (p + 1) q
+  table2-read : (p q : ℕ) (x : Dataspace2) → Stands s (dataspace2 w) p q x → ReadSpace w (version-2 x) → Reads s (dataSpace2 w) (p + 1) q
   unfolding dataspace2
   table2-read p q x h r =
       let n = le s (p + 1) 1 in
@@ -151,7 +148,7 @@ module _ (s : List ℕ) (w : ℕ) where
 
 -- the version, and the table of that version
 message-read : (s : List ℕ) (state : State) (p q : ℕ) (x : Dataspace) → Stands s (dataspaceMessage (state .«size_of_lengths»)) p q x → ReadSpace (state .«size_of_lengths») x
-    → Reads s (state .«size_of_lengths») (dataSpace state) p q
+    → Reads s (dataSpace state) p q
 unfolding dataSpace dataspaceMessage byVersion marked
 message-read s state p q x h r = go (eqb (h .1) 1) (eqb (h .1) 2) refl refl (h .3)
   where
@@ -159,7 +156,7 @@ message-read s state p q x h r = go (eqb (h .1) 1) (eqb (h .1) 2) refl refl (h .
     w = state .«size_of_lengths»
 
     go : (one two : Bool) → eqb (h .1) 1 ≡ one → eqb (h .1) 2 ≡ two → Stands s (pick one (marked version-1 (dataspace1 w)) (pick two (marked version-2 (dataspace2 w)) (refuse 0))) p q x
-        → Reads s w (dataSpace state) p q
+        → Reads s (dataSpace state) p q
     go true two e f i =
         let c = stands-bind s (dataspace1 w) (λ y. done (version-1 y)) p q x i in
         let d = table1-read s w p q (c .1) (rw (c .3 .0) at (c .2)) (rw (← c .3 .1) at r) in
@@ -170,12 +167,9 @@ message-read s state p q x h r = go (eqb (h .1) 1) (eqb (h .1) 2) refl refl (h .
         (d .0, (h .2 .0, rw (h .2 .1 .1, e, f) (d .1)))
     go false false e f i = absurd i
 
--- It has as many elements as the standard's, unless it is a scalar one with sizes.
-pub space-read : (s : List ℕ) (state : State) (p q : ℕ) (x : Dataspace) → Stands s (dataspaceMessage (state .«size_of_lengths»)) p q x → ReadSpace (state .«size_of_lengths») x
-    → (ElementsDiffer x → ⊥) → (d : DataSpace) × Stands s (dataSpace state) p q d × (elementsOf d ≡ elements x)
-space-read s state p q x h r f =
-    let d = message-read s state p q x h r in
-    let y = dataspace-tied state .ties s p q (d .0) (d .1) in
-    let e = unique s (dataspaceMessage (state .«size_of_lengths»)) p q q (y .value) x (y .stands) h .1 in
-    let i : SameDataspace (d .0) x = rw e at (y .related) in
-    (d .0, d .1, ⊎-elim (λ n. absurd (f n)) (λ e. e) (elements-same (d .0) x i))
+-- It has the standard's fields, and as many elements.
+pub dataspace-is-read : (s : List ℕ) (state : State) (p q : ℕ) (x : Dataspace) → Stands s (dataspaceMessage (state .«size_of_lengths»)) p q x → ReadSpace (state .«size_of_lengths») x
+    → ReadAs SameSpace (dataSpace state) s p q x
+dataspace-is-read s state p q x h r =
+    let y = read-tied (dataspace-tied state) s p q x h q (message-read s state p q x h r) in
+    record { value = y .value; stands = y .stands; related = record { fields = y .related; elements = elements-counted (y .value) x (y .related) (r .no-scalar-with-sizes) } }
