@@ -4,10 +4,10 @@ use mathlib.Core.Path.{_≡_, _∙_}
 use mathlib.Core.List.{List, [], _∷_, _++_}
 use native.Mathlib.Omega.{arith}
 use lib.ListN.{length}
-use Rattle.format.specs.Format.{found, read}
+use Rattle.format.specs.Format.{Stands, found, read}
 use Rattle.format.specs.Laws as formats
 use Rattle.grammar.specs.Message.{Message, Held, message, continuation}
-use Rattle.grammar.specs.Grammar.{Source, Item, item, ochk, blockEnd, One, Run, ends, goes, Entry, is-message, is-continuation, is-block}
+use Rattle.grammar.specs.Grammar.{Source, Item, item, ochk, blockEnd, One, Run, ends, goes, Entry, is-message, is-continuation, Block, is-block}
 use Rattle.grammar.specs.Walk.{Went, reached, Count, counted, opened, Limits, runBy, blockBy, entryAt}
 use Rattle.grammar.specs.WalkLaws.{then-reached, Fit, fit-first, fit-second}
 use Rattle.grammar.specs.Steps.{run-ends, run-goes, entry-kept, entry-opened, block-closed}
@@ -57,6 +57,14 @@ module _ (src : Source) (l : Limits) where
       let b = i levels (opened s) (omega arith) (record { few = omega (arith, f .few); room = f .room }) in
       entry-opened src l (blockBy src l (entryAt src l levels)) p s (omega (arith, f .few)) o n q (own p q (continuation o n) h) (b .0) xs (b .1)
 
+  block-whole : (level o n start q m : ℕ) (xs : List Item) → Stands (src .file) ochk o start tt → RunComplete level start (o + n - 4) q xs → Stands (src .file) (blockEnd (src .sum) o (o + n) q) q m tt
+      → BlockComplete level o n xs
+  block-whole level o n start q m xs h j t levels s k f = (
+    m,
+    block-closed src l (entryAt src l levels) s o n start (formats.complete (src .file) ochk o start tt h) q xs (j levels (suc (l .entries)) s k (omega arith) f)
+        m (formats.complete (src .file) (blockEnd (src .sum) o (o + n) q) q m tt t),
+  )
+
   pub run-complete : {level p e q : ℕ} {xs : List Item} → Run src level p e q xs → RunComplete level p e q xs
   run-complete r = elim r as (λ level p e q xs y. RunComplete level p e q xs) (λ level p q xs y. EntryComplete level p q xs) (λ level o n xs y. BlockComplete level o n xs) [
     | ends {p = p} {e = e} h ↦ λ levels turns s k n f. run-end (entryAt src l levels) turns e p s h n f
@@ -64,9 +72,12 @@ module _ (src : Source) (l : Limits) where
         run-step (entryAt src l levels) turns e p m q s xs ys h n f (entry-some a) (i levels s k (fit-first l s xs ys f)) (λ t n′ f′. j levels t (counted s xs) k n′ f′)
     | is-message {p = p} {q = q} {m = m} h ↦ λ levels s k f. entry-message levels p q m s h f
     | is-continuation {level = level} {p = p} {q = q} {offset = o} {length = n} {xs = xs} h d (b → i) ↦ continued level p q o n xs h d i
-    | is-block {offset = o} {size = n} {start = start} {q = q} {xs = xs} m h (r → j) t ↦ λ levels s k f. (
-      m,
-      block-closed src l (entryAt src l levels) s o n start (formats.complete (src .file) ochk o start tt h) q xs (j levels (suc (l .entries)) s k (omega arith) f)
-          m (formats.complete (src .file) (blockEnd (src .sum) o (o + n) q) q m tt t),
-    )
+    | is-block {level = level} {offset = o} {size = n} {start = start} {q = q} {xs = xs} m h (r → j) t ↦ block-whole level o n start q m xs h j t
   ]
+
+  block-complete : {level o n : ℕ} {xs : List Item} → Block src level o n xs → BlockComplete level o n xs
+  block-complete (is-block {level = level} {offset = o} {size = n} {start = start} {q = q} {xs = xs} m h r t) = block-whole level o n start q m xs h (run-complete r) t
+
+  pub entry-complete : {level p q : ℕ} {xs : List Item} → Entry src level p q xs → EntryComplete level p q xs
+  entry-complete (is-message {p = p} {q = q} {m = m} h) = λ levels s k f. entry-message levels p q m s h f
+  entry-complete (is-continuation {level = level} {p = p} {q = q} {offset = o} {length = n} {xs = xs} h d b) = continued level p q o n xs h d (block-complete b)

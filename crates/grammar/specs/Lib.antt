@@ -13,3 +13,6 @@ pub mod Theorems
 pub mod Advance
 pub mod Filled
 pub mod Each
+pub mod Begun
+pub mod BegunSound
+pub mod BegunComplete

@@ -35,7 +35,7 @@ module _ (src : Source) (l : Limits) where
       let v : [] ≡ xs = cc in
       subst₂ (λ (x : ℕ) (ys : List Item). Fitting (Run src level p e x) s ys) u v (ends h, fit-none l s b)
 
-  run-sound : (level : ℕ) (entry : ℕ → Count → Went (List Item)) → EntrySound entry level → (turns : ℕ) → RunSound (runBy src l entry turns) level
+  pub run-sound : (level : ℕ) (entry : ℕ → Count → Went (List Item)) → EntrySound entry level → (turns : ℕ) → RunSound (runBy src l entry turns) level
   unfolding runBy
   run-sound level entry h zero e p q s xs b f = never f
   run-sound level entry h (suc turns) e p q s xs b f = ⊎-elim
