@@ -30,7 +30,7 @@ abbrev pub given : Case → Out ℕ
 given c = counts (decode (c .file) (c .offsets) (c .lengths) (c .end) 0 (lent 2))
 
 -- `OHDR`, version 2 and flags 0
-abbrev opening : List ℕ
+abbrev pub opening : List ℕ
 opening = 0x4F ∷ 0x48 ∷ 0x44 ∷ 0x52 ∷ 2 ∷ 0 ∷ []
 
 -- a dataspace with one size, of three bytes; here and below the last parameter is the header's checksum

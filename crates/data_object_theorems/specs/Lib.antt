@@ -1,5 +1,6 @@
 pub mod Bounds
 pub mod Cases
+pub mod BegunCases
 pub mod Checksums
 pub mod Lookups
 pub mod Joint
