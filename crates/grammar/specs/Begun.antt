@@ -29,7 +29,7 @@ more no-level = 1
 more no-entry = 0
 more elsewhere = 0
 
--- which number a refusal has; of what does not stand, any
+-- the number of a refusal for a cause; where fields do not stand, it is theirs, and left open here
 abbrev pub Numbered : Limits → Cause → ℕ → Type 0
 Numbered l own r = Unit {0}
 Numbered l no-row r = r ≡ 24
