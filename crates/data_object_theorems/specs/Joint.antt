@@ -28,6 +28,7 @@ use Rattle.data_object.specs.declared.Answer.the-variants as answers
 use Rattle.data_object.specs.declared.DataObject.{DataObject}
 use Rattle.data_object.specs.Decoded.{answerOut, counts, rowsIn, decoded, Decoded}
 use Rattle.data_object.specs.Unique.{answer-unique}
+use Rattle.data_object_theorems.specs.Checks24.{check-not-24}
 
 -- a header that passed with these figures, filled into a table with so many rows: the same figures, or 24 where its rows exceed them, and only there
 pub record Fills (f : HeaderFigures) (rows : ℕ) (o : DataObject) : Type 0 where
@@ -35,10 +36,12 @@ pub record Fills (f : HeaderFigures) (rows : ℕ) (o : DataObject) : Type 0 wher
   pub exceeds : rows < f .rows → o .answer ≡ answers.Refused refusals.Table
   pub only : (x : Refusal) → o .answer ≡ answers.Refused x → (x ≡ refusals.Table) × (rows < f .rows)
 
--- a header that was refused after so many rows were taken, filled into a table with so many: the same refusal, or 24 where it was full before
+-- a header that was refused after so many rows were taken, filled into a table with so many: the same refusal, or 24 where it was full before, and only
+-- there
 pub record Fails (x : Refusal) (taken rows : ℕ) (o : DataObject) : Type 0 where
   pub same : taken ≤ rows → o .answer ≡ answers.Refused x
   pub full : rows < taken → o .answer ≡ answers.Refused refusals.Table
+  pub only : o .answer ≡ answers.Refused refusals.Table → rows < taken
 
 module _ (file : List ℕ) (offsets lengths end at : ℕ) where
   -- A header that the check refuses as x, when so many entries were begun. The rows taken by then are one number for every table of n words, filled
@@ -68,8 +71,15 @@ module _ (file : List ℕ) (offsets lengths end at : ℕ) where
     alike : beside .taken ≤ n / rowWords → decoded file offsets lengths end at n ≡ checked file offsets lengths end at
     alike h = beside .enough (n / rowWords) h
 
-    fails : (x : Refusal) (k : ℕ) → checked file offsets lengths end at ≡ stopped (refusalNumber x) k → Fails x (beside .taken) (n / rowWords) o
-    fails x k e = record { same = λ h. answer-unique _ _ (d .answer ∙ ap counts (alike h ∙ e)); full = short }
+    fails : (x : Refusal) (k : ℕ) → (x ≡ refusals.Table → ⊥) → checked file offsets lengths end at ≡ stopped (refusalNumber x) k → Fails x (beside .taken) (n / rowWords) o
+    fails x k other e = record { same = same; full = short; only = λ r. only r (ltb (n / rowWords) (beside .taken)) refl }
+      where
+        same : beside .taken ≤ n / rowWords → o .answer ≡ answers.Refused x
+        same h = answer-unique _ _ (d .answer ∙ ap counts (alike h ∙ e))
+
+        only : o .answer ≡ answers.Refused refusals.Table → (b : Bool) → ltb (n / rowWords) (beside .taken) ≡ b → n / rowWords < beside .taken
+        only r true b = ltb-true (n / rowWords) (beside .taken) b
+        only r false b = absurd (other (cc (same (ltb-false (n / rowWords) (beside .taken) b), r)))
 
     fills : (xs : List Item) (next : ℕ) → checked file offsets lengths end at ≡ reached xs next → Fills (figuresOf next xs) (n / rowWords) o
     fills xs next e = record { same = same; exceeds = λ h. short (omega (arith, rows)); only = λ x r. only x r (ltb (n / rowWords) (messages xs)) refl }
@@ -97,4 +107,4 @@ module _ (file : List ℕ) (offsets lengths end at : ℕ) where
       refusal (stopped r k) e i =
           let z : refusalNumber x ≡ r = cc in
           let j = e ∙ ap (λ (y : ℕ). stopped y k) (sym z) in
-          record { begun = k; taken = beside .taken; stops = j; before = beside .before (refusalNumber x) k j; few = beside .few (omega arith); filled = λ n o t d. fails n o t d x k j }
+          record { begun = k; taken = beside .taken; stops = j; before = beside .before (refusalNumber x) k j; few = beside .few (omega arith); filled = λ n o t d. fails n o t d x k (λ y. check-not-24 file offsets lengths end at (rw y at c)) j }

@@ -4,3 +4,7 @@ pub mod BegunCases
 pub mod Checksums
 pub mod Lookups
 pub mod Joint
+pub mod JointRoot
+pub mod Never24
+pub mod Formats24
+pub mod Checks24

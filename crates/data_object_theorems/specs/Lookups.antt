@@ -4,16 +4,17 @@ use Prim.Native.Nat.{ℕ, zero, suc, _+_, _-_, _*_, _/_, _≤_, _<_}
 use mathlib.Core.Path.{_≡_, refl, sym, ap, _∙_}
 use mathlib.Core.List.{List, [], _∷_, _++_, append-assoc, map}
 use native.Mathlib.Omega.{arith}
-use lib.ListN.{length, take, drop, replicate, length-append}
+use lib.ListN.{length, take, drop, replicate, length-append, length-replicate}
 use Rattle.records.specs.declared.Part.{Part}
 use Rattle.records.specs.declared.OptionPart.the-variants as parts
 use Rattle.records.specs.declared.Attribute.{Attribute}
 use Rattle.row.specs.declared.Row.{Row}
 use Rattle.row.specs.Rows.{rowWords, encode, rowAt}
-use Rattle.row.specs.RowLaws.{row-written}
+use Rattle.row.specs.RowLaws.{row-written, length-encode}
 use Rattle.grammar.specs.Message.{Kept, Message, nameOf, rowOf}
 use Rattle.grammar.specs.Message as messages
 use Rattle.grammar.specs.Table.{messagesOf, rowsOf}
+use Rattle.grammar.specs.TableLaws.{length-rowsOf}
 use Rattle.data_object.specs.declared.DataObject.{DataObject}
 use Rattle.data_object.specs.Decoded.{Accepted}
 use Rattle.lookup.specs.Lookup.{Bears, Looked}
@@ -116,10 +117,17 @@ module _ (file : List ℕ) (offsets lengths end at n : ℕ) {next count : ℕ} {
       go answers.Nothing l e = absurd (omega arith)
       go (answers.Refused q) l e = absurd (omega arith)
 
-  pub name-nothing : r .rows ≤ length t / rowWords → LookedAs file t (r .rows) name 0 → (i : ℕ) (m : Message) → MessageAt (messagesOf (a .items)) i m → BearsName file name m → ⊥
-  name-nothing h w = go (w .answer) (w .looked) (w .same)
+  -- the rows that are filled are in the table
+  rows-inside : r .rows ≤ length t / rowWords
+  rows-inside =
+      let rows = rowsOf (a .items) in
+      let zeros = n - length rows * rowWords in
+      omega (arith, ap length (a .table), length-append (encode rows) (replicate zeros 0), length-encode rows, length-replicate {A = ℕ} zeros 0, length-rowsOf (a .items), a .rows, a .readable .room)
+
+  pub name-nothing : LookedAs file t (r .rows) name 0 → (i : ℕ) (m : Message) → MessageAt (messagesOf (a .items)) i m → BearsName file name m → ⊥
+  name-nothing w = go (w .answer) (w .looked) (w .same)
     where
       go : (x : LookupAnswer) → Looked file t (r .rows) name x → 0 ≡ rowPlusOne x → (i : ℕ) (m : Message) → MessageAt (messagesOf (a .items)) i m → BearsName file name m → ⊥
       go (answers.At j) l e = absurd (omega arith)
       go answers.Nothing l e = lookup-nothing l
-      go (answers.Refused q) l e = absurd (omega (arith, l .1))
+      go (answers.Refused q) l e = absurd (omega (arith, l .1, rows-inside))
