@@ -26,6 +26,7 @@ use row::rows_in;
 ghost use mathlib.Core.Path.{_≡_};
 ghost use Prim.Native.Nat.{_/_, _≤_};
 ghost use lib.ListN.{length};
+ghost use Rattle.format.specs.Bytes.{AreBytes};
 ghost use Rattle.row.specs.Rows.{rowWords};
 ghost use Rattle.records.specs.Elements.{TrueSpace};
 ghost use Rattle.parser.specs.States.{Widths};
@@ -108,7 +109,8 @@ fn build_data_object_from_messages(
 
 // An object header at a position. Its messages go into the table, one a row, then zeros; a header
 // that is refused leaves the table all zero. Words that a row fills are not cleared before. The
-// dataspace that is handed out is true, accepted or refused.
+// dataspace that is handed out is true, accepted or refused. The file is one of bytes, which what is
+// said of numbers asks for.
 pub fn data_object(
     file: &[u8],
     position: u64,
@@ -119,6 +121,7 @@ pub fn data_object(
 ) -> DataObject
     ensures { λ r. ⌜ Decoded (now (file .entry)) «offset_width» «length_width» «end_of_file» position (length (now (table .entry))) r (now (table .exit)) ⌝ }
     ensures { λ r. ⌜ TrueSpace (r .ds) ⌝ }
+    ensures { λ _. ⌜ AreBytes (now (file .entry)) ⌝ }
 {
     let limits = Limits {
         entries: 4096,

@@ -49,7 +49,9 @@ fn header_messages(
     }
 }
 
-// The messages of the object header at a position; those that have a row go into the table.
+// The messages of the object header at a position; those that have a row go into the table. A
+// refusal leaves the table's words free, as that of `collect_all_messages` does: the caller clears
+// them.
 pub fn data_object_messages(
     file: &[u8],
     table: &mut [u64],

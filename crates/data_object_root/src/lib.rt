@@ -9,6 +9,7 @@ use super_block::SuperBlockRead;
 use super_block::super_block;
 ghost use mathlib.Core.Path.{_≡_};
 ghost use lib.ListN.{length};
+ghost use Rattle.format.specs.Bytes.{AreBytes};
 ghost use Rattle.records.specs.Refusals.{refusalNumber};
 ghost use Rattle.data_object_words.specs.Handed.{TrueWords};
 ghost use Rattle.data_object_root.specs.Root.{refusedWords, HandedRoot, CheckedRoot};
@@ -29,6 +30,7 @@ fn put_refusal(words: &mut [u64], refusal: Refusal)
 pub fn root_words(file: &[u8], table: &mut [u64], words: &mut [u64; 65])
     ensures { λ _. ⌜ HandedRoot (now (file .entry)) (length (now (table .entry))) (now (table .exit)) (now (words .exit)) ⌝ }
     ensures { λ _. ⌜ TrueWords (now (words .exit)) ⌝ }
+    ensures { λ _. ⌜ AreBytes (now (file .entry)) ⌝ }
 {
     match super_block(file) {
         SuperBlockRead::Refused(refusal) => {

@@ -12,6 +12,7 @@ ghost use mathlib.Core.Path.{_≡_};
 ghost use Prim.Native.Nat.{_≤_};
 ghost use lib.ListN.{length};
 ghost use lib.Seq.{sets};
+ghost use Rattle.format.specs.Bytes.{AreBytes};
 ghost use Rattle.data_object_words.specs.Words.{answerWords, wordsOf};
 ghost use Rattle.data_object_words.specs.Handed.{Handed, TrueWords};
 
@@ -63,6 +64,7 @@ pub fn header_words(
 )
     ensures { λ _. ⌜ Handed (now (file .entry)) «offset_width» «length_width» «end_of_file» position (length (now (table .entry))) (now (table .exit)) (now (words .exit)) ⌝ }
     ensures { λ _. ⌜ TrueWords (now (words .exit)) ⌝ }
+    ensures { λ _. ⌜ AreBytes (now (file .entry)) ⌝ }
 {
     let object = data_object(
         file,

@@ -138,7 +138,9 @@ fn message_block(
     Walk::Done(progress)
 }
 
-// The entries of a header at `from`, from `at` on within its chunk's end, and what closes it.
+// The entries of a header at `from`, from `at` on within its chunk's end, and what closes it. Of a
+// refusal the table is no part: its words are left free, and rows of messages before it may stand
+// there. Whoever hands the table on clears it.
 pub fn collect_all_messages(
     file: &[u8],
     table: &mut [u64],

@@ -39,13 +39,13 @@ same-length : tie.Need-same-length
 same-length c = search needs
 
 returns : tie.Need-returns
-returns c = let a = (c .before .before .before .before .before .before .before .before .before .before .before .before .before .before .before .before .args) in let u = c .before .before .before .before .before .before .before .before .before .before .data-object-messages .last .1 .0 in let k = c .before .before .before .before .before .before .before .before .before .before .data-object-messages .kept .1 .0 in (rejected-decoded (a .file .now) (a .offset-width) (a .length-width) (a .end-of-file) (a .position) (length (a .table .now)) (c .before .before .before .before .before .before .r .given .0 .0) _ (a .table .now) _ (c .before .before .before .before .before .before .r .given .0 .1 .0) (rw (c .before .before .before .before .before .before .before .before .before .before .before .before .rows-in .ensures) at (sym (met (λ m. messagesOut m u) (c .before .before .before .before .before .before .before .before .before .before .data-object-messages .ensures .0) (c .before .before .before .before .before .before .r .given .1)))) (c .rejected .ensures .0) (c .before .before .before .clear-behind .ensures ∙ cleared-all u ∙ ap (λ (m : ℕ). replicate m 0) k), c .rejected .ensures .1)
+returns c = let a = (c .before .before .before .before .before .before .before .before .before .before .before .before .before .before .before .before .args) in let u = c .before .before .before .before .before .before .before .before .before .before .data-object-messages .last .1 .0 in let k = c .before .before .before .before .before .before .before .before .before .before .data-object-messages .kept .1 .0 in (rejected-decoded (a .file .now) (a .offset-width) (a .length-width) (a .end-of-file) (a .position) (length (a .table .now)) (c .before .before .before .before .before .before .r .given .0 .0) _ (a .table .now) _ (c .before .before .before .before .before .before .r .given .0 .1 .0) (rw (c .before .before .before .before .before .before .before .before .before .before .before .before .rows-in .ensures) at (sym (met (λ m. messagesOut m u) (c .before .before .before .before .before .before .before .before .before .before .data-object-messages .ensures .0) (c .before .before .before .before .before .before .r .given .1)))) (c .rejected .ensures .0) (c .before .before .before .clear-behind .ensures ∙ cleared-all u ∙ ap (λ (m : ℕ). replicate m 0) k), (c .rejected .ensures .1, λ i. omega (arith, c .before .before .before .before .before .before .before .before .before .before .before .before .before .before .before .shared-slice-known .given i)))
 
 same-length-2 : tie.Need-same-length-2
 same-length-2 c = search needs
 
 returns-2 : tie.Need-returns-2
-returns-2 c = let a = (c .before .before .before .before .before .before .before .before .before .before .before .before .before .before .before .before .before .args) in let u = c .before .before .before .before .before .before .before .before .before .before .before .data-object-messages .last .1 .0 in let k = c .before .before .before .before .before .before .before .before .before .before .before .data-object-messages .kept .1 .0 in (built-decoded (a .file .now) (a .offset-width) (a .length-width) (a .end-of-file) (a .position) (length (a .table .now)) (a .table .now) refl (c .before .before .before .before .before .before .before .progress .given .0 .0) u (rw (c .before .before .before .before .before .before .before .before .before .before .before .before .before .rows-in .ensures) at (sym (met (λ m. messagesOut m u) (c .before .before .before .before .before .before .before .before .before .before .before .data-object-messages .ensures .0) (c .before .before .before .before .before .before .before .progress .given .1)))) (subst (StateRead (a .offset-width) (a .length-width) (a .end-of-file)) (c .before .before .before .before .before .before .before .progress .given .1) (c .before .before .before .before .before .before .before .before .before .before .before .data-object-messages .ensures .1) .0) _ k (c .before .before .before .before .clear-behind2 .ensures) _ (c .build-data-object-from-messages .ensures .0), c .build-data-object-from-messages .ensures .1)
+returns-2 c = let a = (c .before .before .before .before .before .before .before .before .before .before .before .before .before .before .before .before .before .args) in let u = c .before .before .before .before .before .before .before .before .before .before .before .data-object-messages .last .1 .0 in let k = c .before .before .before .before .before .before .before .before .before .before .before .data-object-messages .kept .1 .0 in (built-decoded (a .file .now) (a .offset-width) (a .length-width) (a .end-of-file) (a .position) (length (a .table .now)) (a .table .now) refl (c .before .before .before .before .before .before .before .progress .given .0 .0) u (rw (c .before .before .before .before .before .before .before .before .before .before .before .before .before .rows-in .ensures) at (sym (met (λ m. messagesOut m u) (c .before .before .before .before .before .before .before .before .before .before .before .data-object-messages .ensures .0) (c .before .before .before .before .before .before .before .progress .given .1)))) (subst (StateRead (a .offset-width) (a .length-width) (a .end-of-file)) (c .before .before .before .before .before .before .before .progress .given .1) (c .before .before .before .before .before .before .before .before .before .before .before .data-object-messages .ensures .1) .0) _ k (c .before .before .before .before .clear-behind2 .ensures) _ (c .build-data-object-from-messages .ensures .0), (c .build-data-object-from-messages .ensures .1, λ i. omega (arith, c .before .before .before .before .before .before .before .before .before .before .before .before .before .before .before .before .shared-slice-known .given i)))
 
 pub data-object-spec : {M : Type 1} → statement M
 data-object-spec =

@@ -1,5 +1,6 @@
 -- By the superblock: what is refused is cleared, and else the header's words are those of its root.
 use mathlib.Core.Path.{_∙_}
+use native.Mathlib.Omega.{arith}
 use Rattle.records.specs.Refusals.{refusalNumber}
 use Rattle.row.specs.Clearing.{cleared-all}
 use Rattle.data_object_root.specs.Laws.{refused-true}
@@ -35,7 +36,7 @@ same-length : tie.Need-same-length
 same-length c = search needs
 
 returns : tie.Need-returns
-returns c = (rw (← c .before .before .before .before .before .before .before .before .before .super-block .ensures .0, c .before .before .before .before .before .before .before .refusal .given .1) (c .before .before .before .before .clear-behind .ensures ∙ cleared-all (c .before .before .before .before .before .before .before .before .before .before .before .before .args .table .now), c .put-refusal .ensures), rw (c .put-refusal .ensures) (refused-true (refusalNumber (c .before .before .before .before .before .before .before .refusal .given .0 .0))))
+returns c = (rw (← c .before .before .before .before .before .before .before .before .before .super-block .ensures .0, c .before .before .before .before .before .before .before .refusal .given .1) (c .before .before .before .before .clear-behind .ensures ∙ cleared-all (c .before .before .before .before .before .before .before .before .before .before .before .before .args .table .now), c .put-refusal .ensures), (rw (c .put-refusal .ensures) (refused-true (refusalNumber (c .before .before .before .before .before .before .before .refusal .given .0 .0))), λ i. omega (arith, c .before .before .before .before .before .before .before .before .before .before .before .shared-slice-known .given i)))
 
 same-length-2 : tie.Need-same-length-2
 same-length-2 c = search needs
