@@ -25,7 +25,8 @@ use Rattle.data_object.specs.DecodedLaws.{accepted-rows}
 use Rattle.standard.specs.Attributes.{Attribute, attributeMessage}
 use Rattle.standard_attribute.specs.SameNumbers.{SameNumber}
 use Rattle.standard_attribute.specs.ReadValues.{NumberValue, describedOf, dataOf}
-use Rattle.standard_header.specs.Readings.{RowIs, reading-is, each-message}
+use Rattle.standard_header.specs.HeaderIs.{RowIs}
+use Rattle.standard_header.specs.Readings.{reading-is, each-message}
 
 -- A row of type 12 has the number that the specification's attribute message at its body has: wherever that stands with one, whatever bounds its format
 -- has, the row's last two words are case and bits of the number that its data field is by the table of its class.
