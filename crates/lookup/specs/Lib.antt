@@ -1,3 +1,4 @@
 pub mod Lookup
 pub mod Facts
 pub mod Unique
+pub mod Samples

@@ -1,18 +1,22 @@
--- A set of names worked through: the answers stand in the names' order, which here is not the rows'. Assumes nothing.
+-- A set of names worked through: the answers stand in the names' order, which here is not the rows'. How many names a set may have, and which
+-- refusal comes first, with their numbers. Assumes nothing.
 use Prim.Native.Nat.{ℕ, zero, suc, _+_, _<_, _≤_}
 use mathlib.Core.Path.{_≡_, refl, ap, _∙_}
 use mathlib.Core.List.{List, [], _∷_}
+use mathlib.Core.Logic.{inl, inr}
 use native.Mathlib.Omega.{arith}
 use lib.ListN.{length, take, drop, getD}
 use Rattle.records.specs.declared.Part.{Part}
 use Rattle.records.specs.declared.OptionPart.the-variants as parts
+use Rattle.records.specs.Refusals.{refusalNumber}
+use Rattle.records.specs.declared.Refusal.{Refusal}
 use Rattle.row.specs.declared.Row.{Row}
 use Rattle.row.specs.Rows.{rowAt, partAt, encode}
 use Rattle.lookup.specs.Lookup.{Bears, Looked}
 use Rattle.lookup.specs.declared.LookupAnswer.the-variants as lookups
 use Rattle.lookup_names.specs.declared.NamesAnswer.{NamesAnswer}
 use Rattle.lookup_names.specs.declared.NamesAnswer.the-variants as answered
-use Rattle.lookup_names.specs.Names.{nameAt, NameAnswered, LookedNames}
+use Rattle.lookup_names.specs.Names.{nameAt, NameAnswered, RefusedAs, LookedNames}
 use Rattle.lookup_names.specs.Facts.{leaving, looked-up, zeros}
 use Rattle.lookup_names.specs.Unique.{looked-names-unique}
 
@@ -83,3 +87,31 @@ pub not-in-the-rows-order : (r : NamesAnswer) → LookedNames file table 2 text 
 not-in-the-rows-order r h =
     let e : _≡_ {A = ℕ} 2 1 = ap (λ (a : List ℕ). getD a 0 0) (looked-names-unique file table 2 text names 5 answers _ answered.Answered r in-the-names-order h .0) in
     omega arith
+
+-- 64 words are 32 names, which are taken, and 66 are 33, which are 29 whatever the row count; of a table of 24 words three rows are 24
+module _ (file table text names answers : List ℕ) where
+  abbrev NumberIs : NamesAnswer → ℕ → Type 0
+  NumberIs a n = (r : Refusal) × (a ≡ answered.Refused r) × (refusalNumber r ≡ n)
+
+  pub names-32 : (lent : ℕ) → length names ≡ 64 → 32 ≤ lent → length table ≡ 24 → (r : Refusal) → LookedNames file table 2 text names lent answers (answered.Refused r) → ⊥
+  names-32 lent n l t r h = go (h .0)
+    where
+      go : RefusedAs table 2 names lent r → ⊥
+      go (inl g) = omega (arith, n, g .1)
+      go (inr g) = omega (arith, t, g .2)
+
+  pub names-33 : (lent rows : ℕ) → length names ≡ 66 → (a : NamesAnswer) → LookedNames file table rows text names lent answers a → NumberIs a 29
+  names-33 lent rows n answered.Answered h = absurd (omega (arith, n, h .0))
+  names-33 lent rows n (answered.Refused r) h = go (h .0)
+    where
+      go : RefusedAs table rows names lent r → NumberIs (answered.Refused r) 29
+      go (inl g) = (r, refl, rw (g .0))
+      go (inr g) = absurd (omega (arith, n, g .1))
+
+  pub three-rows : (lent : ℕ) → length names ≡ 64 → 32 ≤ lent → length table ≡ 24 → (a : NamesAnswer) → LookedNames file table 3 text names lent answers a → NumberIs a 24
+  three-rows lent n l t answered.Answered h = absurd (omega (arith, t, h .1))
+  three-rows lent n l t (answered.Refused r) h = go (h .0)
+    where
+      go : RefusedAs table 3 names lent r → NumberIs (answered.Refused r) 24
+      go (inl g) = absurd (omega (arith, n, g .1))
+      go (inr g) = (r, refl, rw (g .0))
