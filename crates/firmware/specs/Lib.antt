@@ -3,3 +3,4 @@ pub mod Blocks
 pub mod Handed
 pub mod Laws
 pub mod Unique
+pub mod Samples
