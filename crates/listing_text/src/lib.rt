@@ -185,3 +185,26 @@ pub fn list(file: &[u8], out: &mut [u8; 98304]) -> usize
         ),
     }
 }
+
+// The listing of the first n bytes of a buffer, and of all of it where it has fewer.
+fn list_first(input: &[u8], n: usize, out: &mut [u8; 98304]) -> usize
+    ensures { λ r. ⌜ Counts r (now (out .exit)) ⌝ }
+    ensures { λ r. ⌜ take r (now (out .exit)) ≡ listingOf (take n (now (input .entry))) ⌝ }
+    ensures { λ r. ⌜ drop r (now (out .exit)) ≡ drop r (now (out .entry)) ⌝ }
+{
+    if input.len() < n {
+        return list(input, out);
+    }
+    list(&input[..n], out)
+}
+
+// The listing of what was read into a buffer that has one byte more than is taken, so that whoever
+// fills it can tell a file that is too long from one that is not. A count above the buffer's length
+// is that length.
+pub fn list_input(input: &[u8; 65537], n: usize, out: &mut [u8; 98304]) -> usize
+    ensures { λ r. ⌜ Counts r (now (out .exit)) ⌝ }
+    ensures { λ r. ⌜ take r (now (out .exit)) ≡ listingOf (take n (now (input .entry))) ⌝ }
+    ensures { λ r. ⌜ drop r (now (out .exit)) ≡ drop r (now (out .entry)) ⌝ }
+{
+    list_first(input, n, out)
+}
