@@ -8,3 +8,7 @@ pub mod JointRoot
 pub mod Never24
 pub mod Formats24
 pub mod Checks24
+pub mod Refusals
+pub mod RefusalLaws
+pub mod HeaderRefusals
+pub mod LargestFile
