@@ -1,14 +1,14 @@
 -- Without a table a header is refused with 3 to 23 or 28, by the tests of its fields, its messages and the walk. Assumes nothing.
-use Prim.Native.Nat.{ℕ, zero, suc, _+_, _-_, _%_, _^_}
+use Prim.Native.Nat.{ℕ, zero, suc, _+_, _-_, _%_}
 use mathlib.Core.Path.{_≡_, refl}
 use mathlib.Core.Bool.{Bool, true, false, not, _&&_, _||_}
-use mathlib.Core.List.{List, [], _∷_, _++_}
+use mathlib.Core.List.{List, _++_}
 use lib.Bits.{bitAnd}
 use lib.ListN.{length, replicate, set}
 use lib.Dec.{eqb, leb, ltb}
 use Rattle.format.specs.Bits.{bit}
 use Rattle.format.specs.Bytes.{allOnes}
-use Rattle.format.specs.Format.{Format, done, refuse, number, Out, found, refused, read, pick, nothing}
+use Rattle.format.specs.Format.{Format, done, refuse, number, Out, found, refused, read, nothing}
 use Rattle.records.specs.declared.Address.{Address}
 use Rattle.records.specs.declared.Address.the-variants as addresses
 use Rattle.helpers.specs.Addresses.{address, defined, definedAddress}

@@ -1,15 +1,15 @@
 -- The largest file, with its number, for every file: above 2,147,483,648 bytes a check, the call and a superblock are 2, and up to there none is; a
 -- width that is not 2 to 8 is 1 whatever the length. Assumes nothing.
 use Prim.Native.Nat.{ℕ, _/_, _-_, _≤_, _<_}
-use mathlib.Core.Path.{_≡_, refl, sym, ap, _∙_, subst}
-use mathlib.Core.Bool.{Bool, true, false, _&&_, _||_}
+use mathlib.Core.Path.{_≡_, refl, ap, _∙_}
+use mathlib.Core.Bool.{Bool, true, false, _||_}
 use mathlib.Core.List.{List}
 use native.Mathlib.Omega.{arith}
 use lib.ListN.{length}
 use lib.Dec.{eqb, leb, ltb}
 use borrow.Author.Tests.{le-leb, lt-leb, leb-true, ltb-true, ltb-false}
 use Rattle.format.specs.Bools.{and-left, and-right}
-use Rattle.format.specs.Format.{Format, Out, found, refused, read, pick}
+use Rattle.format.specs.Format.{Out, found, refused, read, pick}
 use Rattle.records.specs.declared.Address.{Address}
 use Rattle.records.specs.declared.Address.the-variants as addresses
 use Rattle.helpers.specs.Addresses.{address, defined, definedAddress}
@@ -21,7 +21,6 @@ use Rattle.super_block.specs.SuperBlocks.{superBlock, formatSignature, summed, 
 use Rattle.row.specs.Rows.{rowWords}
 use Rattle.grammar.specs.Grammar.{Item}
 use Rattle.grammar.specs.Walk.{Went, reached, stopped, Limits, lent, withoutTable}
-use Rattle.grammar.specs.WalkLaws.{choose-yes, choose-no}
 use Rattle.data_object_header.specs.Headers.{header, decode}
 use Rattle.data_object_header.specs.Passing.{decode-beside}
 use Rattle.data_object_check.specs.declared.CheckAnswer.{CheckAnswer}

@@ -89,8 +89,8 @@ pub a-dataspace : read (1 ∷ 2 ∷ 3 ∷ 8 ∷ 9 ∷ 1 ∷ 0 ∷ 0 ∷ 5 ∷ 0 
 unfolding read bind le many storedSizes dataspace1
 a-dataspace = refl
 
-pub another-dataspace : read (2 ∷ 1 ∷ 0 ∷ 1 ∷ 5 ∷ 0 ∷ []) (dataspace2 2) 0
-    ≡ found (record { version = 2; dimensionality = 1; flags = 0; type = 1; dimension-size = 5 ∷ []; dimension-maximum-size = not-stored }) 6
+pub another-dataspace : read (2 ∷ 3 ∷ 0 ∷ 1 ∷ 5 ∷ 0 ∷ 6 ∷ 0 ∷ 7 ∷ 0 ∷ []) (dataspace2 2) 0
+    ≡ found (record { version = 2; dimensionality = 3; flags = 0; type = 1; dimension-size = 5 ∷ 6 ∷ 7 ∷ []; dimension-maximum-size = not-stored }) 10
 unfolding read bind le many storedSizes dataspace2
 another-dataspace = refl
 
@@ -163,19 +163,29 @@ pub a-contiguous-layout : read (3 ∷ 1 ∷ 9 ∷ 0 ∷ 2 ∷ 0 ∷ 0 ∷ []) (d
 unfolding read bind le marked address contiguousStorage layoutProperties dataLayout3
 a-contiguous-layout = refl
 
--- a filter with a name, one value and its padding
-pub a-filter-pipeline : read (1 ∷ 1 ∷ 0 ∷ 0 ∷ 0 ∷ 0 ∷ 0 ∷ 0 ∷ 1 ∷ 0 ∷ 8 ∷ 0 ∷ 1 ∷ 0 ∷ 1 ∷ 0 ∷ 110 ∷ 0 ∷ 0 ∷ 0 ∷ 0 ∷ 0 ∷ 0 ∷ 0 ∷ 9 ∷ 0 ∷ 0 ∷ 0 ∷ 0 ∷ 0 ∷ 0 ∷ 0 ∷ []) filterPipeline1 0
+-- a filter with a name, one value and its padding, and one without a name, whose two values need none
+pub a-filter-pipeline : read (
+    1 ∷ 2 ∷ 3 ∷ 0 ∷ 4 ∷ 0 ∷ 0 ∷ 0
+    ∷ 5 ∷ 0 ∷ 8 ∷ 0 ∷ 6 ∷ 0 ∷ 1 ∷ 0 ∷ 110 ∷ 0 ∷ 0 ∷ 0 ∷ 0 ∷ 0 ∷ 0 ∷ 0 ∷ 9 ∷ 0 ∷ 0 ∷ 0 ∷ 7 ∷ 0 ∷ 0 ∷ 0
+    ∷ 10 ∷ 0 ∷ 0 ∷ 0 ∷ 11 ∷ 0 ∷ 2 ∷ 0 ∷ 12 ∷ 0 ∷ 0 ∷ 0 ∷ 13 ∷ 0 ∷ 0 ∷ 0 ∷ []
+    ) filterPipeline1 0
     ≡ found (record {
-      fields = record { version = 1; number-of-filters = 1; reserved = 0; reserved-2 = 0 };
+      fields = record { version = 1; number-of-filters = 2; reserved = 3; reserved-2 = 4 };
       filter-description-list =
           record {
-            fields = record { filter-identification-value = 1; name-length = 8; flags = 1; number-client-data-values = 1 };
+            fields = record { filter-identification-value = 5; name-length = 8; flags = 6; number-client-data-values = 1 };
             name = record { position = 16; length = 8 };
             client-data = 9 ∷ [];
-            padding = present 0;
+            padding = present 7;
+          }
+          ∷ record {
+            fields = record { filter-identification-value = 10; name-length = 0; flags = 11; number-client-data-values = 2 };
+            name = record { position = 40; length = 0 };
+            client-data = 12 ∷ 13 ∷ [];
+            padding = absent;
           }
           ∷ [];
-    }) 32
+    }) 48
 unfolding read bind le raw optional many filterFields1 filterDescription1 pipelineFields1 filterPipeline1
 a-filter-pipeline = refl
 

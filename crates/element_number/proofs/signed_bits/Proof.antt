@@ -7,7 +7,7 @@ use lib.Signed.{nonNeg}
 use lib.IntN.{ℤ, natAbs}
 use lib.Dec.{T}
 use native.Mathlib.Omega.{arith}
-use Prim.Native.Nat.{suc, _-_, _≤_}
+use Prim.Native.Nat.{suc, _-_}
 use mathlib.Core.Path.{_≡_, sym, _∙_, ap, subst}
 use Rattle.element_number.proofs.signed_bits.Statement.{statement}
 use Rattle.element_number.proofs.signed_bits.Tie as tie
@@ -19,7 +19,7 @@ cast-result : tie.Need-cast-result
 cast-result c = let n = negative _ (c .before .fits .x) (c .if1 .taken) in subst (λ (z : ℤ). T (nonNeg z) × Fits w64 (natAbs z)) (sym (n .value)) (tt, record { fits = omega (arith, n .below) })
 
 sub-result-2 : tie.Need-sub-result-2
-sub-result-2 c = let n = negative _ (c .before .fits .x) (c .if1 .taken) in subst (λ (z : ℤ). natAbs z ≤ 18446744073709551615) (sym (n .value)) (omega (arith, n .below))
+sub-result-2 c = let n = negative _ (c .before .fits .x) (c .if1 .taken) in omega (arith, ap natAbs (n .value), n .below)
 
 cast-result-2 : tie.Need-cast-result-2
 cast-result-2 c = let n = positive _ (c .before .fits .x) (c .if1 .left) in subst (λ (z : ℤ). T (nonNeg z) × Fits w64 (natAbs z)) (sym (n .value)) (tt, record { fits = omega (arith, n .below) })
