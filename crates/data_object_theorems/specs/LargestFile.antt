@@ -14,7 +14,7 @@ use Rattle.records.specs.declared.Address.{Address}
 use Rattle.records.specs.declared.Address.the-variants as addresses
 use Rattle.helpers.specs.Addresses.{address, defined, definedAddress}
 use Rattle.lookup3.specs.Lookup3.{sumMatches}
-use Rattle.parser.specs.States.{widthAllowed, stateFor}
+use Rattle.parser.specs.States.{fileLimit, widthAllowed, stateFor}
 use Rattle.super_block.specs.declared.SuperBlock.{SuperBlock}
 use Rattle.super_block.specs.SuperBlocks as blocks
 use Rattle.super_block.specs.SuperBlocks.{superBlock, formatSignature, summed, superBlockOf}
@@ -53,11 +53,11 @@ module _ (file : List ℕ) (offsets lengths end at : ℕ) where
 
   above : (l : Limits) → BothAllowed → 2147483648 < length file → decode file offsets lengths end at l ≡ stopped 2 0
   unfolding decode
-  above l w h = rw (width-test offsets (w .0), width-test lengths (w .1), lt-leb (length file) 2147483648 h)
+  above l w h = rw (width-test offsets (w .0), width-test lengths (w .1), lt-leb (length file) fileLimit (omega (arith, h)))
 
   within : (l : Limits) → BothAllowed → length file ≤ 2147483648 → decode file offsets lengths end at l ≡ header file (stateFor offsets lengths end) l at
   unfolding decode
-  within l w h = rw (width-test offsets (w .0), width-test lengths (w .1), le-leb (length file) 2147483648 h)
+  within l w h = rw (width-test offsets (w .0), width-test lengths (w .1), le-leb (length file) fileLimit (omega (arith, h)))
 
   checks-as : BothAllowed → length file ≤ 2147483648 → StopsAs (decode file offsets lengths end at withoutTable)
   checks-as w h = rw (within withoutTable w h) (header-as file (stateFor offsets lengths end) at)
@@ -136,11 +136,11 @@ block-as = λ signature. check-as ofBlock (eqb signature formatSignature) 25 _ r
 module _ (file : List ℕ) where
   pub superblock-above-the-limit : 2147483648 < length file → superBlockOf file ≡ refused 2
   unfolding superBlockOf
-  superblock-above-the-limit h = rw (lt-leb (length file) 2147483648 h)
+  superblock-above-the-limit h = rw (lt-leb (length file) fileLimit (omega (arith, h)))
 
   pub superblock-refusals : length file ≤ 2147483648 → OutAs ofBlock (superBlockOf file)
   unfolding superBlockOf
-  superblock-refusals h = rw (le-leb (length file) 2147483648 h) (sum-as (read file superBlock 0) (read-as ofBlock refl file superBlock 0 block-as))
+  superblock-refusals h = rw (le-leb (length file) fileLimit (omega (arith, h))) (sum-as (read file superBlock 0) (read-as ofBlock refl file superBlock 0 block-as))
     where
       tested : (t : Bool) (b : SuperBlock) (q : ℕ) → OutAs ofBlock (pick t (found b q) (refused 28))
       tested true b q = tt

@@ -19,6 +19,6 @@ fn run_files(buf: &mut [u8]) {
 }
 
 fn main() {
-    let mut buf = [0u8; 1048576];
+    let mut buf = [0u8; 4194304];
     run_files(&mut buf);
 }

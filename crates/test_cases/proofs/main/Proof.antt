@@ -7,7 +7,7 @@ use Rattle.test_cases.proofs.main.Statement.{statement}
 use Rattle.test_cases.proofs.main.Tie as tie
 
 slice-aggregate-run-files : tie.Need-slice-aggregate-run-files
-slice-aggregate-run-files c = sym (length-replicate {A = ℕ} 1048576 0)
+slice-aggregate-run-files c = sym (length-replicate {A = ℕ} 4194304 0)
 
 run-files-requires : tie.Need-run-files-requires
 run-files-requires c κs = search needs
