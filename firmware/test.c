@@ -6,10 +6,12 @@
  * checker sees a read or a write beyond them. Headers, their blocks and superblocks have their true
  * sums, unless it is said that they are false.
  */
+#define _DEFAULT_SOURCE /* for MAP_ANONYMOUS and MAP_NORESERVE */
 #include <stddef.h>
 #include <stdio.h>
 #include <stdlib.h>
 #include <string.h>
+#include <sys/mman.h>
 
 #include "dowringaf.h"
 #include "lookup3.h"
@@ -1339,6 +1341,53 @@ static void test_large_listing(void)
     listing_is(input, MOST, "refused,25\n");
     listing_is(input, MOST + 1, "refused,2\n");
     free(input);
+}
+
+/* The file of the small listing in as many bytes: of those behind it none is touched. */
+static void size_is(const uint8_t *file, size_t bytes, uint64_t next, uint64_t refused)
+{
+    struct header h = header_at(file, bytes, SUPERBLOCK, 71);
+    dowringaf_checked expected = refused == 0 ? passed_with(next, 2, 2) : refused_with(refused);
+    uint64_t *table = ones(LENT);
+    dowringaf_object *o = object_of_ones();
+
+    IS(dowringaf_super_block(file, bytes).refused, refused);
+    compare_checked(dowringaf_check_data_object(file, bytes, h.position, h.offset_width,
+                                                h.length_width, h.end), expected);
+    compare_checked(dowringaf_check_root_object(file, bytes), expected);
+    filling_is(&h, LENT, expected);
+    dowringaf_root_object(file, bytes, table, LENT, o);
+    compare_checked(checked_of(o), expected);
+    h.offset_width = 9;
+    filling_is(&h, LENT, refused_with(DOWRINGAF_WIDTH));
+    free(table);
+    free(o);
+}
+
+/* The largest file, and one byte more, in memory that is reserved and not filled; neither is listed. */
+static void test_largest_file(void)
+{
+    const size_t most = (size_t)1 << 31;
+    size_t n;
+    struct writer w;
+    uint8_t *out = block(DOWRINGAF_LISTING, 1);
+    uint8_t *file = mmap(NULL, most + 1, PROT_READ | PROT_WRITE,
+                         MAP_PRIVATE | MAP_ANONYMOUS | MAP_NORESERVE, -1, 0);
+
+    if (file == MAP_FAILED) {
+        perror("mmap");
+        exit(2);
+    }
+    write_small(&w);
+    memcpy(file, w.bytes, w.count);
+    size_is(file, most, 71, 0);
+    size_is(file, most + 1, 0, DOWRINGAF_FILE_SIZE);
+    for (n = most; n <= most + 1; n++) {
+        IS(dowringaf_list(file, n, out), 10);
+        IS((uint64_t)memcmp(out, "refused,2\n", 10), 0);
+    }
+    munmap(file, most + 1);
+    free(out);
 }
 
 static void superblock_is(const struct writer *w, const dowringaf_superblock *expected)
@@ -3374,6 +3423,7 @@ int main(int count, char **words)
     test_parts();
     test_listing();
     test_large_listing();
+    test_largest_file();
     test_superblock();
     test_refused_superblocks();
     test_undefined_superblocks();
