@@ -9,6 +9,7 @@ use lib.Dec.{eqb, leb, ltb}
 use Rattle.format.specs.Bits.{bit}
 use Rattle.format.specs.Bytes.{allOnes}
 use Rattle.format.specs.Format.{Format, done, refuse, number, Out, found, refused, read, nothing}
+use Rattle.format.specs.Refusals.{RefusedWith, RefusesWith}
 use Rattle.records.specs.declared.Address.{Address}
 use Rattle.records.specs.declared.Address.the-variants as addresses
 use Rattle.helpers.specs.Addresses.{address, defined, definedAddress}
@@ -31,11 +32,11 @@ use Rattle.ohdr_entry.specs.declared.Prefix.{Prefix}
 use Rattle.ohdr_entry.specs.Entries.{plainBody, layoutBody, attributeBody, body, creationOrder, prefix, messageHeld, continuationHeld, closed, entry}
 use Rattle.ohdr_walk.specs.Sources.{source}
 use Rattle.data_object_header.specs.Headers.{ohdr, headerFields, header}
-use Rattle.data_object_theorems.specs.Refusals.{ofHeader, OutAs, RefusedAs}
-use Rattle.data_object_theorems.specs.RefusalLaws.{read-as, bind-as, times-as, pick-as, check-as}
+use Rattle.data_object_theorems.specs.Refusals.{ofHeader}
+use Rattle.format.specs.RefusalLaws.{read-as, bind-as, times-as, pick-as, check-as}
 
 abbrev As : {A : Type 0} → Format A → Type 0
-As F = RefusedAs ofHeader F
+As F = RefusesWith ofHeader F
 
 -- fields that several messages have
 address-as : (w : ℕ) → As (address w)
@@ -262,40 +263,40 @@ entry-as s flags = bind-as ofHeader (prefix flags) _ (prefix-as flags) (λ x b.
     (closed-as messageHeld s x b (bind-as ofHeader (body s (x .kind)) _ (body-as s (x .kind)) (λ _. tt))))
 
 -- the same of what a walk gives
-abbrev pub StopsAs : {A : Type 0} → Went A → Type 0
-StopsAs (reached a q) = Unit {0}
-StopsAs (stopped r n) = ofHeader r ≡ true
+abbrev pub StopsWith : {A : Type 0} → Went A → Type 0
+StopsWith (reached a q) = Unit {0}
+StopsWith (stopped r n) = ofHeader r ≡ true
 
-then-as : {A B : Type 0} (w : Went A) (k : A → ℕ → Went B) → StopsAs w → ((a : A) (q : ℕ) → StopsAs (k a q)) → StopsAs (andThen w k)
+then-as : {A B : Type 0} (w : Went A) (k : A → ℕ → Went B) → StopsWith w → ((a : A) (q : ℕ) → StopsWith (k a q)) → StopsWith (andThen w k)
 then-as (reached a q) k h g = g a q
 then-as (stopped r n) k h g = h
 
-begun-as : {A : Type 0} (n : ℕ) (o : Out A) → OutAs ofHeader o → StopsAs (begun n o)
+begun-as : {A : Type 0} (n : ℕ) (o : Out A) → RefusedWith ofHeader o → StopsWith (begun n o)
 begun-as n (found a q) h = tt
 begun-as n (refused r) h = h
 
-choose-as : {A : Type 0} (t : Bool) (a b : Unit {0} → Went A) → StopsAs (a tt) → StopsAs (b tt) → StopsAs (choose t a b)
+choose-as : {A : Type 0} (t : Bool) (a b : Unit {0} → Went A) → StopsWith (a tt) → StopsWith (b tt) → StopsWith (choose t a b)
 choose-as true a b h g = h
 choose-as false a b h g = g
 
 -- a walk without a table
 module _ (src : Source) (one : As (src .entry)) where
-  reads : {A : Type 0} (n : ℕ) (F : Format A) (p : ℕ) → As F → StopsAs (begun n (read (src .file) F p))
+  reads : {A : Type 0} (n : ℕ) (F : Format A) (p : ℕ) → As F → StopsWith (begun n (read (src .file) F p))
   reads n F p h = begun-as n (read (src .file) F p) (read-as ofHeader refl (src .file) F p h)
 
-  hold-as : (block : Count → ℕ → ℕ → Went (List Item)) → ((s : Count) (o n : ℕ) → StopsAs (block s o n)) → (s : Count) (p : ℕ) (x : Held) (q : ℕ) → StopsAs (hold src withoutTable block s p x q)
+  hold-as : (block : Count → ℕ → ℕ → Went (List Item)) → ((s : Count) (o n : ℕ) → StopsWith (block s o n)) → (s : Count) (p : ℕ) (x : Held) (q : ℕ) → StopsWith (hold src withoutTable block s p x q)
   unfolding hold
   hold-as block b s p (message m) q = tt
   hold-as block b s p (continued o n) q = then-as (block (opened s) o n) _ (b (opened s) o n) (λ _ _. tt)
 
-  entry-by-as : (block : Count → ℕ → ℕ → Went (List Item)) → ((s : Count) (o n : ℕ) → StopsAs (block s o n)) → (p : ℕ) (s : Count) → StopsAs (entryBy src withoutTable block p s)
+  entry-by-as : (block : Count → ℕ → ℕ → Went (List Item)) → ((s : Count) (o n : ℕ) → StopsWith (block s o n)) → (p : ℕ) (s : Count) → StopsWith (entryBy src withoutTable block p s)
   unfolding entryBy
   entry-by-as block b p s =
       choose-as (ltb (s .entries) 4096) _ _
       (then-as (begun (s .entries + 1) (read (src .file) (src .entry) p)) (hold src withoutTable block s p) (reads (s .entries + 1) (src .entry) p one) (hold-as block b s p))
       refl
 
-  run-by-as : (by : ℕ → Count → Went (List Item)) → ((p : ℕ) (s : Count) → StopsAs (by p s)) → (turns e p : ℕ) (s : Count) → StopsAs (runBy src withoutTable by turns e p s)
+  run-by-as : (by : ℕ → Count → Went (List Item)) → ((p : ℕ) (s : Count) → StopsWith (by p s)) → (turns e p : ℕ) (s : Count) → StopsWith (runBy src withoutTable by turns e p s)
   unfolding runBy
   run-by-as by h zero e p s = refl
   run-by-as by h (suc turns) e p s =
@@ -304,7 +305,7 @@ module _ (src : Source) (one : As (src .entry)) where
       then-as (runBy src withoutTable by turns e m (counted s xs)) (λ ys q. reached (xs ++ ys) q) (run-by-as by h turns e m (counted s xs)) (λ _ _. tt)))
       tt
 
-  block-by-as : (by : ℕ → Count → Went (List Item)) → ((p : ℕ) (s : Count) → StopsAs (by p s)) → (s : Count) (o n : ℕ) → StopsAs (blockBy src withoutTable by s o n)
+  block-by-as : (by : ℕ → Count → Went (List Item)) → ((p : ℕ) (s : Count) → StopsWith (by p s)) → (s : Count) (o n : ℕ) → StopsWith (blockBy src withoutTable by s o n)
   unfolding blockBy ochk blockEnd
   block-by-as by h s o n =
       then-as (begun (s .entries) (read (src .file) ochk o)) _ (reads (s .entries) ochk o (λ v. check-as ofHeader (eqb v 0x4B48434F) 20 nothing refl tt)) (λ _ first.
@@ -312,12 +313,12 @@ module _ (src : Source) (one : As (src .entry)) where
       then-as (begun (counted s xs .entries) (read (src .file) (blockEnd (src .sum) o (o + n) q) q)) (λ _ m. reached xs m)
       (reads (counted s xs .entries) (blockEnd (src .sum) o (o + n) q) q (check-as ofHeader (src .sum o (o + n - 4)) 28 nothing refl tt)) (λ _ _. tt)))
 
-  entry-at-as : (levels p : ℕ) (s : Count) → StopsAs (entryAt src withoutTable levels p s)
+  entry-at-as : (levels p : ℕ) (s : Count) → StopsWith (entryAt src withoutTable levels p s)
   unfolding entryAt
   entry-at-as zero p s = entry-by-as (λ s o n. stopped 21 (s .entries)) (λ s o n. refl) p s
   entry-at-as (suc levels) p s = entry-by-as (blockBy src withoutTable (entryAt src withoutTable levels)) (block-by-as (entryAt src withoutTable levels) (entry-at-as levels)) p s
 
-  walk-as : (o e p : ℕ) → StopsAs (walk src withoutTable o e p)
+  walk-as : (o e p : ℕ) → StopsWith (walk src withoutTable o e p)
   unfolding walk runAt headerEnd
   walk-as o e p =
       then-as (runAt src withoutTable blockLevels e p start) _ (run-by-as (entryAt src withoutTable blockLevels) (entry-at-as blockLevels) 4097 e p start) (λ xs q.
@@ -331,7 +332,7 @@ fields-as = bind-as ofHeader ohdr _ (λ v. check-as ofHeader (eqb v 0x5244484F) 
     check-as ofHeader (not (bit flags 4)) 6 _ refl (λ size.
     check-as ofHeader (leb size 16777216) 7 _ refl tt)))
 
-pub header-as : (file : List ℕ) (s : State) (at : ℕ) → StopsAs (header file s withoutTable at)
+pub header-as : (file : List ℕ) (s : State) (at : ℕ) → StopsWith (header file s withoutTable at)
 unfolding header
 header-as file s at = then-as (begun 0 (read file headerFields at)) _ (begun-as 0 (read file headerFields at) (read-as ofHeader refl file headerFields at fields-as)) (λ f start.
     walk-as (source file s (f .flags)) (entry-as s (f .flags)) at (start + f .size) start)

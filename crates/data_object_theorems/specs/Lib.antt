@@ -3,12 +3,9 @@ pub mod Cases
 pub mod BegunCases
 pub mod Checksums
 pub mod Lookups
+pub mod Refusals
+pub mod HeaderRefusals
+pub mod Checks24
+pub mod LargestFile
 pub mod Joint
 pub mod JointRoot
-pub mod Never24
-pub mod Formats24
-pub mod Checks24
-pub mod Refusals
-pub mod RefusalLaws
-pub mod HeaderRefusals
-pub mod LargestFile

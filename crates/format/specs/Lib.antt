@@ -8,3 +8,5 @@ pub mod Covers
 pub mod Steps
 pub mod Bits
 pub mod Standing
+pub mod Refusals
+pub mod RefusalLaws

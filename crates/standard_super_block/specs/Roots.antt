@@ -10,7 +10,7 @@ use Rattle.records.specs.RefusalLaws.{refusal-positive}
 use Rattle.super_block.specs.declared.SuperBlock.{SuperBlock}
 use Rattle.super_block.specs.SuperBlocks.{superBlock, superBlockOf}
 use Rattle.super_block.specs.Laws.{super-block-read}
-use Rattle.super_block.specs.Positive.{refusal-not-0}
+use Rattle.super_block.specs.RefusalLaws.{refusal-not-0}
 use Rattle.data_object.specs.declared.Answer.{Answer}
 use Rattle.data_object.specs.declared.Answer.the-variants as answers
 use Rattle.data_object_words.specs.Handed.{Handed}

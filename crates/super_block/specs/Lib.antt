@@ -1,4 +1,5 @@
 pub mod SuperBlocks
 pub mod Answers
 pub mod Laws
-pub mod Positive
+pub mod Refusals
+pub mod RefusalLaws

@@ -6,41 +6,41 @@ use mathlib.Core.List.{List}
 use native.Mathlib.Omega.{arith}
 use lib.ListN.{length}
 use lib.Dec.{leb}
 use Rattle.format.specs.Bytes.{le, nameLength, textLength}
 use Rattle.format.specs.Format.{Format, done, refuse, number, skip, bytes, name, text, here, there, attempt, Out, found, refused, nameEnds, read, bind, times, pick, check}
-use Rattle.data_object_theorems.specs.Refusals as refusals
+use Rattle.format.specs.Refusals as refusals
 
 module _ (allowed : ℕ → Bool) where
-  abbrev RefusedAs : {A : Type 0} → Format A → Type 0
-  RefusedAs F = refusals.RefusedAs allowed F
+  abbrev RefusesWith : {A : Type 0} → Format A → Type 0
+  RefusesWith F = refusals.RefusesWith allowed F
 
-  abbrev OutAs : {A : Type 0} → Out A → Type 0
-  OutAs o = refusals.OutAs allowed o
+  abbrev RefusedWith : {A : Type 0} → Out A → Type 0
+  RefusedWith o = refusals.RefusedWith allowed o
 
   -- no other number
-  pub refused-otherwise : {A : Type 0} (n : ℕ) (o : Out A) → allowed n ≡ false → OutAs o → o ≡ refused n → ⊥
+  pub refused-otherwise : {A : Type 0} (n : ℕ) (o : Out A) → allowed n ≡ false → RefusedWith o → o ≡ refused n → ⊥
   refused-otherwise n o e h d =
-      let g : allowed n ≡ true = subst (λ (x : Out _). refusals.OutAs allowed x) d h in
+      let g : allowed n ≡ true = subst (λ (x : Out _). refusals.RefusedWith allowed x) d h in
       let z : _≡_ {A = ℕ} 0 1 = ap (λ (b : Bool). pick b 1 0) (sym e ∙ g) in
       omega arith
 
   module _ (short : allowed 3 ≡ true) (s : List ℕ) where
-    tested : {A : Type 0} (t : Bool) (o : Out A) → OutAs o → OutAs {A = A} (elim t [ true ↦ o | false ↦ refused 3 ])
+    tested : {A : Type 0} (t : Bool) (o : Out A) → RefusedWith o → RefusedWith {A = A} (elim t [ true ↦ o | false ↦ refused 3 ])
     tested true o h = h
     tested false o h = short
 
     -- by what was read at another place, and by an attempt
-    back : {A B : Type 0} (p : ℕ) (k : B → Format A) (r : Out B) → OutAs r → ((b : B) → OutAs (read s (k b) p))
-        → OutAs {A = A} (elim r [ found b m ↦ read s (k b) p | refused n ↦ refused n ])
+    back : {A B : Type 0} (p : ℕ) (k : B → Format A) (r : Out B) → RefusedWith r → ((b : B) → RefusedWith (read s (k b) p))
+        → RefusedWith {A = A} (elim r [ found b m ↦ read s (k b) p | refused n ↦ refused n ])
     back p k (found b m) h g = g b
     back p k (refused n) h g = h
 
-    otherwise : {A B : Type 0} (p : ℕ) (k : B → Format A) (G : Format A) (r : Out B) → ((b : B) (m : ℕ) → OutAs (read s (k b) m)) → OutAs (read s G p)
-        → OutAs {A = A} (elim r [ found b m ↦ read s (k b) m | refused n ↦ read s G p ])
+    otherwise : {A B : Type 0} (p : ℕ) (k : B → Format A) (G : Format A) (r : Out B) → ((b : B) (m : ℕ) → RefusedWith (read s (k b) m)) → RefusedWith (read s G p)
+        → RefusedWith {A = A} (elim r [ found b m ↦ read s (k b) m | refused n ↦ read s G p ])
     otherwise p k G (found b m) h g = h b m
     otherwise p k G (refused n) h g = g
 
-    pub read-as : {A : Type 0} (F : Format A) (p : ℕ) → RefusedAs F → OutAs (read s F p)
+    pub read-as : {A : Type 0} (F : Format A) (p : ℕ) → RefusesWith F → RefusedWith (read s F p)
     unfolding read
     read-as (done x) p h = tt
     read-as (refuse n) p h = h
@@ -55,7 +55,7 @@ module _ (allowed : ℕ → Bool) where
     read-as (there o F k) p h = back p k (read s F o) (read-as F o (h .0)) (λ b. read-as (k b) p (h .1 b))
     read-as (attempt F k G) p h = otherwise p k G (read s F p) (λ b m. read-as (k b) m (h .0 b)) (read-as G p (h .1))
 
-  pub bind-as : {A B : Type 0} (F : Format A) (k : A → Format B) → RefusedAs F → ((a : A) → RefusedAs (k a)) → RefusedAs (bind F k)
+  pub bind-as : {A B : Type 0} (F : Format A) (k : A → Format B) → RefusesWith F → ((a : A) → RefusesWith (k a)) → RefusesWith (bind F k)
   unfolding bind
   bind-as (done x) k h g = g x
   bind-as (refuse n) k h g = h
@@ -68,14 +68,14 @@ module _ (allowed : ℕ → Bool) where
   bind-as (there o F f) k h g = (h .0, λ b. bind-as (f b) k (h .1 b) g)
   bind-as (attempt F f G) k h g = (λ b. bind-as (f b) k (h .0 b) g, bind-as G k (h .1) g)
 
-  pub times-as : {A B : Type 0} (n : ℕ) (F : Format A) (G : Format B) → RefusedAs F → RefusedAs G → RefusedAs (times n F G)
+  pub times-as : {A B : Type 0} (n : ℕ) (F : Format A) (G : Format B) → RefusesWith F → RefusesWith G → RefusesWith (times n F G)
   unfolding times
   times-as zero F G h g = g
   times-as (suc n) F G h g = bind-as F (λ _. times n F G) h (λ _. times-as n F G h g)
 
-  pub pick-as : {A : Type 0} (t : Bool) (F G : Format A) → RefusedAs F → RefusedAs G → RefusedAs (pick t F G)
+  pub pick-as : {A : Type 0} (t : Bool) (F G : Format A) → RefusesWith F → RefusesWith G → RefusesWith (pick t F G)
   pick-as true F G h g = h
   pick-as false F G h g = g
 
-  pub check-as : {A : Type 0} (t : Bool) (n : ℕ) (F : Format A) → allowed n ≡ true → RefusedAs F → RefusedAs (check t n F)
+  pub check-as : {A : Type 0} (t : Bool) (n : ℕ) (F : Format A) → allowed n ≡ true → RefusesWith F → RefusesWith (check t n F)
   check-as t n F e h = pick-as t F (refuse n) h e
