@@ -170,6 +170,17 @@ fn super_block_words(answer: SuperBlockRead) -> SuperBlockWords
     }
 }
 
+// The number that dowringaf.h has as DOWRINGAF_LIBRARY_VERSION.
+const LIBRARY_VERSION: u64 = 1;
+
+// The version of what C is handed, for a caller to compare with its header's.
+#[no_mangle]
+pub extern "C" fn dowringaf_version() -> u64
+    ensures { λ r. ⌜ r ≡ 1 ⌝ }
+{
+    LIBRARY_VERSION
+}
+
 // The superblock of a plain file.
 #[no_mangle]
 pub extern "C" fn dowringaf_super_block(file: &[u8]) -> SuperBlockWords
