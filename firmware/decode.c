@@ -1,19 +1,30 @@
 /*
  * Prints what an object header holds, or the attributes of some names in it.
  *
- *   decode [--check] FILE
- *   decode [--check] FILE POSITION
- *   decode [--check] FILE POSITION OFFSET_WIDTH LENGTH_WIDTH END_OF_FILE
- *   decode FILE ... --find NAME...
+ *   decode [OPTION]... FILE
+ *   decode [OPTION]... FILE POSITION
+ *   decode [OPTION]... FILE POSITION OFFSET_WIDTH LENGTH_WIDTH END_OF_FILE
+ *   decode [OPTION]... FILE ... --find NAME...
  *
  * The first takes the root group's header and the second the header at a position, both by the
  * file's own superblock; the third is for files whose superblock is not of version 2 or 3. The
  * numbers are decimal. A line for the superblock, where it is read, one for the call, one for each
  * row, one for each record; a hyphen stands where a field is absent, `undefined` where an address
- * is, `too many` where the elements of the dataspace are 2^64 or more, and names and data are
- * written as the bytes they are. A superblock or a header that is refused prints `refused,` and the
- * refusal's number. The exit status is 0 for either, and 2 where nothing could be decoded or
- * written.
+ * is, and `too many` where the elements of the dataspace are 2^64 or more. A superblock or a header
+ * that is refused prints `refused,` and the refusal's number.
+ *
+ * In names and texts every byte outside 32 to 126, the backslash and the comma are written as \xNN,
+ * so that a file can neither add a line nor a field, nor speak to the terminal. Lengths are those
+ * in the file. Of data the length alone is printed, unless --data asks for the bytes, which stand
+ * in the last line and as they are. With --raw names, texts and data are all written as the bytes
+ * that they are, and data in the row of their layout too: that is for programs, which count.
+ *
+ * What a person should know stands on standard error: what was refused and why, in words; that the
+ * file is shorter or longer than its superblock says, which no call compares; and that attributes
+ * or links stand in a heap, which is not read.
+ *
+ * The exit status is 0 where the header is read, 1 where something is refused, and 2 where the
+ * words are not as above, a file cannot be read, or standard output not be written.
  *
  * The line of a row ends with its part; where an attribute has a number, three fields follow:
  *
@@ -34,20 +45,22 @@
  * is one for each name, in the order in which they are given: the name, its row, the first being 0,
  * and what follows the name in that row's own line; or the name and a hyphen where no attribute has
  * it. More than 32 names are `refused,29`. Attributes that stand in a heap, as those of a root with
- * more than 8, are not in its header: where a name has none, and there is a heap, that is said on
- * standard error.
+ * more than 8, are not in its header: where a name has none, and there is a heap, that is said.
  *
  *   Title,3,5,HRTFs
  *   SamplingRate,7,-,,unsigned,48000,0x000000000000bb80
  *   Comment,-
  */
+#include <errno.h>
+#include <stdarg.h>
 #include <stdio.h>
 #include <stdlib.h>
 #include <string.h>
 
 #include "dowringaf.h"
+#include "refusals.h"
 
-enum { LEAST_ROOM = 65536 };
+enum { LEAST_ROOM = 65536, DATA_LAYOUT = 8 };
 
 /* One byte more than is decoded, so that a larger file is refused without being read whole. */
 #define MOST_ROOM ((size_t)2147483649u)
@@ -55,20 +68,61 @@ enum { LEAST_ROOM = 65536 };
 /* The words after the file's name, in their order. */
 enum { POSITION, OFFSET_WIDTH, LENGTH_WIDTH, END_OF_FILE, NUMBERS };
 
+/* The exit status. */
+enum { READ = 0, REFUSED = 1, FAILED = 2 };
+
+/* The options in front of the file's name, and whether they are given. */
+enum { CHECK, DATA, RAW, HELP, VERSION, OPTIONS };
+static const char *const options[OPTIONS] = {"--check", "--data", "--raw", "--help", "--version"};
+static int given[OPTIONS];
+
 static dowringaf_object object;
 
+/* A file, by its name and its bytes. */
 struct bytes {
+    const char *path;
     uint8_t *at;
     size_t count;
 };
 
-/* What is asked of a header: the check alone, the attributes of these names, or all of it. */
-struct asked {
-    int only_check;
-    int find;
+/* The names to find, where that is asked. */
+struct names {
+    int asked;
     size_t count;
-    char **names;
+    char **words;
 };
+
+/* Why standard output could not be written, the first time; 0 where it could. */
+static int not_written;
+
+/* Where an earlier write failed and nothing is left to write, no reason is left either. */
+static void flush(void)
+{
+    errno = EIO;
+    if ((fflush(stdout) != 0 || ferror(stdout)) && not_written == 0) {
+        not_written = errno;
+    }
+}
+
+/* A line on standard error, of a file or of what else has the name; it follows what is printed. */
+static void say(const char *name, const char *format, ...)
+{
+    va_list values;
+
+    flush();
+    fprintf(stderr, "%s: ", name);
+    va_start(values, format);
+    vfprintf(stderr, format, values);
+    va_end(values);
+    fputc('\n', stderr);
+}
+
+/* What the system says of an error. */
+static int fail(const char *name, int error)
+{
+    say(name, "%s", strerror(error));
+    return FAILED;
+}
 
 /* A number of digits alone. Yields 0 where it is none, or above 64 bits. */
 static int number_of(const char *text, uint64_t *number)
@@ -106,7 +160,10 @@ static size_t first_room(FILE *stream)
     return (unsigned long)size < MOST_ROOM ? (size_t)size + 1 : MOST_ROOM;
 }
 
-/* A stream up to its end, or as much as fills the most room. Yields 0 where it cannot be read. */
+/*
+ * A stream up to its end, or as much as fills the most room. Yields 0 where it cannot be read, and
+ * leaves why in errno.
+ */
 static int read_stream(FILE *stream, struct bytes *file)
 {
     size_t room = first_room(stream);
@@ -126,19 +183,20 @@ static int read_stream(FILE *stream, struct bytes *file)
     }
 }
 
-/* A file, in a block of its size. Yields 0 where it cannot be read. */
-static int read_file(const char *path, struct bytes *file)
+/* A file, in a block of its size. Yields 0 where it cannot be read, and leaves why in errno. */
+static int read_file(struct bytes *file)
 {
-    FILE *stream = fopen(path, "rb");
+    FILE *stream = fopen(file->path, "rb");
     int is_read;
+    int reason;
 
-    file->at = NULL;
-    file->count = 0;
     if (stream == NULL) {
         return 0;
     }
     is_read = read_stream(stream, file);
+    reason = errno;
     fclose(stream);
+    errno = reason;
     if (is_read && file->count != 0) {
         uint8_t *exact = realloc(file->at, file->count);
 
@@ -197,16 +255,50 @@ static void put_optional_address(dowringaf_optional_address field)
     }
 }
 
-/* A length and the bytes of a part of the file. */
-static void put_part(const struct bytes *file, uint64_t position, uint64_t length)
+/* Bytes as they are. */
+static void put_raw(const uint8_t *bytes, size_t count)
+{
+    if (count != 0) {
+        fwrite(bytes, 1, count, stdout);
+    }
+}
+
+/* A name or a text: what is not plain, and what ends a field, in hexadecimal. */
+static void put_text(const uint8_t *bytes, size_t count)
+{
+    size_t i;
+
+    if (given[RAW]) {
+        put_raw(bytes, count);
+        return;
+    }
+    for (i = 0; i < count; i++) {
+        if (bytes[i] < 32 || 126 < bytes[i] || bytes[i] == '\\' || bytes[i] == ',') {
+            printf("\\x%02x", (unsigned)bytes[i]);
+        } else {
+            putchar(bytes[i]);
+        }
+    }
+}
+
+/* A length and the bytes of a part of the file, as they are put by what is given. */
+static void put_part(const struct bytes *file, uint64_t position, uint64_t length,
+                     void (*put_bytes)(const uint8_t *, size_t))
 {
     dowringaf_part part = dowringaf_layout_data(file->at, file->count, position, length);
 
     put_number(length);
     putchar(',');
     if (part.length != 0) {
-        fwrite(file->at + part.position, 1, part.length, stdout);
+        put_bytes(file->at + part.position, part.length);
     }
+}
+
+/* In the place of data, which are printed in their own line alone. */
+static void put_nothing(const uint8_t *bytes, size_t count)
+{
+    (void)bytes;
+    (void)count;
 }
 
 /* An attribute's number, where the row has one. */
@@ -234,8 +326,11 @@ static void put_value(const uint64_t *row)
 /* What follows the name in a row's line: its part, and its number. */
 static void put_content(const struct bytes *file, const uint64_t *row)
 {
+    int is_data = row[DOWRINGAF_ROW_TYPE] == DATA_LAYOUT && !given[RAW];
+
     if (row[DOWRINGAF_ROW_PART] != 0) {
-        put_part(file, row[DOWRINGAF_ROW_PART_POSITION], row[DOWRINGAF_ROW_PART_LENGTH]);
+        put_part(file, row[DOWRINGAF_ROW_PART_POSITION], row[DOWRINGAF_ROW_PART_LENGTH],
+                 is_data ? put_nothing : put_text);
     } else {
         fputs(",-,", stdout);
     }
@@ -250,7 +345,8 @@ static void put_row(const struct bytes *file, const uint64_t *row)
     put_number(row[DOWRINGAF_ROW_SIZE]);
     put_number(row[DOWRINGAF_ROW_BODY]);
     if (row[DOWRINGAF_ROW_NAME] != 0) {
-        put_part(file, row[DOWRINGAF_ROW_NAME_POSITION], row[DOWRINGAF_ROW_NAME_LENGTH]);
+        put_part(file, row[DOWRINGAF_ROW_NAME_POSITION], row[DOWRINGAF_ROW_NAME_LENGTH],
+                 put_text);
     } else {
         fputs(",-,", stdout);
     }
@@ -338,15 +434,55 @@ static void put_layout(const struct bytes *file, const dowringaf_layout *layout)
     fputs("layout", stdout);
     put_optional_address(layout->address);
     fputs("\ndata", stdout);
-    put_part(file, layout->data.position, layout->data.length);
+    if (given[DATA] || given[RAW]) {
+        put_part(file, layout->data.position, layout->data.length, put_raw);
+    } else {
+        put_number(layout->data.length);
+    }
     putchar('\n');
 }
 
-static void put_refused(uint64_t number)
+/* The line of a refusal, and what was refused and why in words. */
+static int refuse(const struct bytes *file, const char *what, uint64_t number)
 {
+    const char *words = number < REFUSALS ? refusal_words[number] : NULL;
+
     fputs("refused", stdout);
     put_number(number);
     putchar('\n');
+    say(file->path, "%s refused, %llu: %s", what, (unsigned long long)number,
+        words != NULL ? words : "not known to this program");
+    return REFUSED;
+}
+
+/* The header that the numbers lead to, or without numbers the root's. */
+static int refuse_header(const struct bytes *file, const uint64_t *numbers, uint64_t number)
+{
+    char what[40] = "root's header";
+
+    if (numbers != NULL) {
+        sprintf(what, "header at %llu", (unsigned long long)numbers[POSITION]);
+    }
+    return refuse(file, what, number);
+}
+
+/* What stands in a heap has no row, since none is read. */
+static void tell_heap(const struct bytes *file, const char *what, const dowringaf_address *heap)
+{
+    if (heap->undefined == 0 && heap->number != 0) {
+        say(file->path, "%s stand in a heap, at %llu, which is not read", what,
+            (unsigned long long)heap->number);
+    }
+}
+
+/* Whether the file is as long as its superblock says, which nothing else compares. */
+static void compare_end(const struct bytes *file, uint64_t end)
+{
+    if (file->count != end) {
+        say(file->path, "%s: it has %llu bytes, and its superblock says %llu",
+            file->count < end ? "the file is cut" : "the file is longer than it says",
+            (unsigned long long)file->count, (unsigned long long)end);
+    }
 }
 
 static void put_superblock(const dowringaf_superblock *block)
@@ -375,10 +511,6 @@ static void put_object(const struct bytes *file, const uint64_t *table)
 {
     uint64_t i;
 
-    if (object.refused != 0) {
-        put_refused(object.refused);
-        return;
-    }
     put_figures("read", object.next, object.entries, object.rows);
     for (i = 0; i < object.rows; i++) {
         put_row(file, table + i * DOWRINGAF_ROW_WORDS);
@@ -389,6 +521,8 @@ static void put_object(const struct bytes *file, const uint64_t *table)
     put_group_info(&object.group_info);
     put_attribute_info(&object.attribute_info);
     put_layout(file, &object.layout);
+    tell_heap(file, "attributes", &object.attribute_info.fractal_heap_address);
+    tell_heap(file, "links", &object.link_info.fractal_heap_address);
 }
 
 /* What the numbers lead to, or without numbers the root's header. */
@@ -415,15 +549,14 @@ static void fill(const struct bytes *file, const uint64_t *numbers, uint64_t *ta
 }
 
 /* A line for each name, whose row plus 1 is given; 0 where it has none. */
-static void put_found(const struct bytes *file, const uint64_t *table, const struct asked *asked,
+static void put_found(const struct bytes *file, const uint64_t *table, const struct names *names,
                       const uint64_t *answers)
 {
-    const dowringaf_address *heap = &object.attribute_info.fractal_heap_address;
     size_t missing = 0;
     size_t i;
 
-    for (i = 0; i < asked->count; i++) {
-        fputs(asked->names[i], stdout);
+    for (i = 0; i < names->count; i++) {
+        put_text((const uint8_t *)names->words[i], strlen(names->words[i]));
         if (answers[i] == 0) {
             fputs(",-\n", stdout);
             missing++;
@@ -432,22 +565,22 @@ static void put_found(const struct bytes *file, const uint64_t *table, const str
             put_content(file, table + (answers[i] - 1) * DOWRINGAF_ROW_WORDS);
         }
     }
-    if (missing != 0 && heap->undefined == 0 && heap->number != 0) {
-        fputs("attributes that stand in a heap are not looked up\n", stderr);
+    if (missing != 0) {
+        tell_heap(file, "attributes", &object.attribute_info.fractal_heap_address);
     }
 }
 
 /* The names one after another, and their places; yields the length of it all. */
-static size_t lay_out(const struct asked *asked, uint8_t *text, uint64_t *places)
+static size_t lay_out(const struct names *names, uint8_t *text, uint64_t *places)
 {
     size_t bytes = 0;
     size_t i;
 
-    for (i = 0; i < asked->count; i++) {
-        size_t length = strlen(asked->names[i]);
+    for (i = 0; i < names->count; i++) {
+        size_t length = strlen(names->words[i]);
 
         if (text != NULL) {
-            memcpy(text + bytes, asked->names[i], length);
+            memcpy(text + bytes, names->words[i], length);
             places[2 * i] = bytes;
             places[2 * i + 1] = length;
         }
@@ -456,89 +589,145 @@ static size_t lay_out(const struct asked *asked, uint8_t *text, uint64_t *places
     return bytes;
 }
 
-/* Looks the names up, all in one call. Yields 0 where there is no memory for them. */
-static int find(const struct bytes *file, const uint64_t *table, const struct asked *asked)
+/* Looks the names up, all in one call. */
+static int find(const struct bytes *file, const uint64_t *table, const struct names *names)
 {
-    uint8_t *text = malloc(lay_out(asked, NULL, NULL) + 1);
-    uint64_t *places = calloc(asked->count, 2 * sizeof *places);
-    uint64_t *answers = calloc(asked->count, sizeof *answers);
-    int has_memory = text != NULL && places != NULL && answers != NULL;
+    uint8_t *text = malloc(lay_out(names, NULL, NULL) + 1);
+    uint64_t *places = calloc(names->count, 2 * sizeof *places);
+    uint64_t *answers = calloc(names->count, sizeof *answers);
+    int status = READ;
 
-    if (has_memory) {
-        size_t bytes = lay_out(asked, text, places);
+    if (text == NULL || places == NULL || answers == NULL) {
+        status = fail("memory for the names", ENOMEM);
+    } else {
+        size_t bytes = lay_out(names, text, places);
         uint64_t refused = dowringaf_lookup_names(
             file->at, file->count, table, object.rows * DOWRINGAF_ROW_WORDS, object.rows, text,
-            bytes, places, 2 * asked->count, answers, asked->count);
+            bytes, places, 2 * names->count, answers, names->count);
 
         if (refused != 0) {
-            put_refused(refused);
+            status = refuse(file, "names", refused);
         } else {
-            put_found(file, table, asked, answers);
+            put_found(file, table, names, answers);
         }
     }
     free(answers);
     free(places);
     free(text);
-    return has_memory;
+    return status;
 }
 
-/* A header in a table of as many rows as it takes. Yields 0 where there is no memory for it. */
+/* What is asked of a header that is decoded. */
+static int put_asked(const struct bytes *file, const uint64_t *numbers, const uint64_t *table,
+                     const struct names *names)
+{
+    if (object.refused != 0) {
+        return refuse_header(file, numbers, object.refused);
+    }
+    if (names->asked) {
+        return find(file, table, names);
+    }
+    put_object(file, table);
+    return READ;
+}
+
+/* A header in a table of as many rows as it takes. */
 static int decode_rows(const struct bytes *file, const uint64_t *numbers, size_t rows,
-                       const struct asked *asked)
+                       const struct names *names)
 {
     uint64_t *table = calloc(rows, DOWRINGAF_ROW_WORDS * sizeof *table);
-    int has_memory = table != NULL || rows == 0;
+    int status;
 
-    if (has_memory) {
-        fill(file, numbers, table, rows * DOWRINGAF_ROW_WORDS);
-        if (asked->find && object.refused == 0) {
-            has_memory = find(file, table, asked);
-        } else {
-            put_object(file, table);
-        }
+    if (table == NULL && rows != 0) {
+        return fail("memory for the table", ENOMEM);
     }
+    fill(file, numbers, table, rows * DOWRINGAF_ROW_WORDS);
+    status = put_asked(file, numbers, table, names);
     free(table);
-    return has_memory;
+    return status;
 }
 
-/* What is asked of a header. Yields 0 where there is no memory for it. */
-static int decode(const struct bytes *file, const uint64_t *numbers, const struct asked *asked)
+/* What is asked of a header. */
+static int decode(const struct bytes *file, const uint64_t *numbers, const struct names *names)
 {
     dowringaf_checked checked = check(file, numbers);
 
     if (checked.refused != 0) {
-        put_refused(checked.refused);
-        return 1;
+        return refuse_header(file, numbers, checked.refused);
     }
-    if (asked->only_check) {
+    if (given[CHECK]) {
         put_figures("checked", checked.next, checked.entries, checked.rows);
-        return 1;
+        return READ;
     }
-    return decode_rows(file, numbers, checked.rows, asked);
+    return decode_rows(file, numbers, checked.rows, names);
 }
 
 /* The root's header, or with a number the one at that position. */
 static int decode_by_superblock(const struct bytes *file, uint64_t *numbers, int count,
-                                const struct asked *asked)
+                                const struct names *names)
 {
     dowringaf_superblock block = dowringaf_super_block(file->at, file->count);
+    int status;
 
     if (block.refused != 0) {
-        put_refused(block.refused);
-        return 1;
+        return refuse(file, "superblock", block.refused);
     }
     put_superblock(&block);
     numbers[OFFSET_WIDTH] = block.size_of_offsets;
     numbers[LENGTH_WIDTH] = block.size_of_lengths;
     numbers[END_OF_FILE] = block.end_of_file_address;
-    return decode(file, count == 0 ? NULL : numbers, asked);
+    status = decode(file, count == 0 ? NULL : numbers, names);
+    compare_end(file, block.end_of_file_address);
+    return status;
 }
 
-static void put_usage(void)
+/* Reads and decodes a file. */
+static int decode_file(const char *path, uint64_t *numbers, int count, const struct names *names)
 {
-    fputs("decode [--check] FILE [POSITION [OFFSET_WIDTH LENGTH_WIDTH END_OF_FILE]]\n"
-          "decode FILE [POSITION [OFFSET_WIDTH LENGTH_WIDTH END_OF_FILE]] --find NAME...\n",
-          stderr);
+    struct bytes file = {path, NULL, 0};
+    int status;
+
+    if (!read_file(&file)) {
+        status = fail(path, errno);
+    } else if (count == NUMBERS) {
+        status = decode(&file, numbers, names);
+    } else {
+        status = decode_by_superblock(&file, numbers, count, names);
+    }
+    free(file.at);
+    return status;
+}
+
+static const char usage[] =
+    "decode [OPTION]... FILE [POSITION [OFFSET_WIDTH LENGTH_WIDTH END_OF_FILE]] [--find NAME...]\n";
+
+static int refuse_words(void)
+{
+    fputs(usage, stderr);
+    fputs("decode --help tells more\n", stderr);
+    return FAILED;
+}
+
+static void put_help(void)
+{
+    fputs(usage, stdout);
+    fputs("\n"
+          "Prints what an object header of an HDF5 file holds: that of the file's root, or the\n"
+          "one at a position.\n"
+          "\n"
+          "  --check     tell how much the header holds, without decoding it\n"
+          "  --data      print the data too, as the bytes that they are\n"
+          "  --raw       print names, texts and data as the bytes that they are, for programs\n"
+          "  --help      print this\n"
+          "  --version   print the version\n"
+          "  --          end the options: what follows is the file\n"
+          "  --find      behind the file: look these attributes up, at most 32\n"
+          "\n"
+          "The exit status is 0 where the header is read, 1 where something is refused, and 2 for\n"
+          "wrong words and errors of the system. What is refused and why, that the file is cut,\n"
+          "and that attributes or links stand in a heap, is said on standard error. README.md has\n"
+          "the lines and figures, the refusals, and what to do.\n",
+          stdout);
 }
 
 /*
@@ -550,80 +739,116 @@ static int numbers_of(int count, char **words, uint64_t *numbers)
     int i;
 
     if (count != 0 && count != 1 && count != NUMBERS) {
-        put_usage();
+        refuse_words();
         return -1;
     }
     for (i = 0; i < count; i++) {
         if (!number_of(words[i], &numbers[i])) {
-            fprintf(stderr, "%s: not a number\n", words[i]);
+            say(words[i], "not a number");
             return -1;
         }
     }
     return count;
 }
 
-/* Reads and decodes a file. Yields 0 where that could not be done. */
-static int decode_file(const char *path, uint64_t *numbers, int given, const struct asked *asked)
-{
-    struct bytes file;
-    int decoded = 0;
-
-    if (!read_file(path, &file)) {
-        fprintf(stderr, "%s: cannot be read\n", path);
-    } else {
-        decoded = given == NUMBERS ? decode(&file, numbers, asked)
-                                   : decode_by_superblock(&file, numbers, given, asked);
-        if (!decoded) {
-            fputs("no memory for the table or the names\n", stderr);
-        }
-    }
-    free(file.at);
-    return decoded;
-}
-
-/*
- * Takes the names off the words: those behind the first --find that follows the file's name. Yields
- * how many words are left.
- */
-static int take_names(int count, char **words, struct asked *asked)
+static int take_option(const char *word)
 {
     int i;
 
-    for (i = 2; i < count; i++) {
+    for (i = 0; i < OPTIONS; i++) {
+        if (strcmp(word, options[i]) == 0) {
+            given[i] = 1;
+            return 1;
+        }
+    }
+    say(word, "not an option");
+    return 0;
+}
+
+/*
+ * Takes the options in front of the file's name. Yields the place of the word behind them, or 0
+ * where one is not known.
+ */
+static int take_options(int count, char **words)
+{
+    int i;
+
+    for (i = 1; i < count && words[i][0] == '-' && words[i][1] != '\0'; i++) {
+        if (strcmp(words[i], "--") == 0) {
+            return i + 1;
+        }
+        if (!take_option(words[i])) {
+            return 0;
+        }
+    }
+    return i;
+}
+
+/*
+ * Takes the names off the words behind the file's name: those behind the first --find. Yields how
+ * many words are left.
+ */
+static int take_names(int count, char **words, struct names *names)
+{
+    int i;
+
+    for (i = 0; i < count; i++) {
         if (strcmp(words[i], "--find") == 0) {
-            asked->find = 1;
-            asked->count = (size_t)(count - i - 1);
-            asked->names = words + i + 1;
+            names->asked = 1;
+            names->count = (size_t)(count - i - 1);
+            names->words = words + i + 1;
             return i;
         }
     }
     return count;
 }
 
-int main(int count, char **words)
+/* The file and what stands behind it. */
+static int run(int count, char **words)
 {
     uint64_t numbers[NUMBERS];
-    struct asked asked = {0, 0, 0, NULL};
-    int path = 1;
-    int given;
+    struct names names = {0, 0, NULL};
+    int left;
 
-    if (count > 1 && strcmp(words[1], "--check") == 0) {
-        asked.only_check = 1;
-        path = 2;
-    } else {
-        count = take_names(count, words, &asked);
+    if (count < 1) {
+        return refuse_words();
     }
-    if (asked.find && asked.count == 0) {
-        put_usage();
-        return 2;
+    left = take_names(count - 1, words + 1, &names);
+    if (names.asked && (names.count == 0 || given[CHECK])) {
+        return refuse_words();
     }
-    given = numbers_of(count - path - 1, words + path + 1, numbers);
-    if (given < 0 || !decode_file(words[path], numbers, given, &asked)) {
-        return 2;
+    left = numbers_of(left, words + 1, numbers);
+    return left < 0 ? FAILED : decode_file(words[0], numbers, left, &names);
+}
+
+/* What the options ask for. */
+static int answer(int count, char **words)
+{
+    int at = take_options(count, words);
+
+    if (at == 0) {
+        return refuse_words();
     }
-    if (fflush(stdout) != 0 || ferror(stdout)) {
-        fputs("standard output: cannot be written\n", stderr);
-        return 2;
+    if (given[HELP]) {
+        put_help();
+        return READ;
     }
-    return 0;
+    if (given[VERSION]) {
+        printf("decode (Dowringaf) %d\n", DOWRINGAF_LIBRARY_VERSION);
+        return READ;
+    }
+    return run(count - at, words + at);
+}
+
+int main(int count, char **words)
+{
+    int status;
+
+    if (dowringaf_version() != DOWRINGAF_LIBRARY_VERSION) {
+        say("decode", "dowringaf.h and the library are of different versions");
+        return FAILED;
+    }
+    status = answer(count, words);
+    flush();
+    return not_written != 0 ? fail("standard output", not_written) : status;
 }

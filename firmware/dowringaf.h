@@ -1,10 +1,17 @@
 /*
- * Reading superblocks and object headers of HDF5 files from C, through libfirmware.a (x86-64).
+ * Reading superblocks and object headers of HDF5 files from C, through libfirmware.a, which
+ * firmware/install installs as libdowringaf.a.
+ *
+ * It is for x86-64 alone, called as the System V ABI says. It needs SSE2, whose registers it uses,
+ * and a red zone, in which it keeps values: nothing else may write to the 128 bytes below the stack
+ * pointer. So it must not run on a stack that interrupts use too, as on bare hardware or in a
+ * kernel, unless they leave these bytes alone. An operating system's signals do.
  *
  * The functions are proved for every input, in crates/firmware. Of them all:
  *
  *   - they always return, and allocate nothing;
- *   - they keep no state between calls, and call nothing but memset and memcpy;
+ *   - they keep no state between calls, and call nothing but memset and memcpy; so threads may call
+ *     them at the same time, each with a table, an object, answers or out of its own;
  *   - they read nothing beyond the elements that they are given;
  *   - they write nothing but the table and the object, or the answers, or out.
  *
@@ -14,10 +21,18 @@
  *     it may be NULL; out points to DOWRINGAF_LISTING of them, and the object is initialised too;
  *   - what a call writes (the table and the object, the answers, or out) overlaps nothing else that
  *     it is given;
- *   - nobody else writes to what is given, and nobody reads what the call writes, during the call;
+ *   - no other thread, and no interrupt, device or process that shares the memory, writes to what
+ *     is given, or reads what the call writes, during the call: a file that is mapped must not be
+ *     changed or cut by another program;
  *   - the stack has room. The proofs say nothing of it: DOWRINGAF_DECODING_STACK and
- *     DOWRINGAF_LISTING_STACK are bounds on what was measured at the deepest (firmware/stack.c);
- *     the four functions that neither is for use less than the first.
+ *     DOWRINGAF_LISTING_STACK are bounds on what was measured at the deepest (firmware/stack.c),
+ *     with room for what is to come; the five functions that neither is for use less than the
+ *     first.
+ *
+ * No function compares the file's length with what the superblock says of it. A file that was cut
+ * behind its root's header is read like a whole one. A caller compares the two by itself, as
+ * firmware/example.c does: end_of_file_address of dowringaf_super_block is the number of bytes that
+ * the whole file has.
  *
  * Time is not proved either. For one entry of a header the file is read forwards, up to its end at
  * most, and the checksums are of little more than the bytes that entries pass; so a call takes at
@@ -36,18 +51,38 @@
 
 #include <stddef.h>
 #include <stdint.h>
+#ifndef DOWRINGAF_NO_INLINE
 #include <string.h>
+#endif
 
 #ifdef __cplusplus
 extern "C" {
 #endif
 
 /*
+ * The version of what is declared here: one more with every change of it, be it a word of a struct,
+ * a function, a refusal or what one of them means. A caller compares it with what the library
+ * answers, and goes on only where the two are equal: the linker does not see that a struct has
+ * grown.
+ */
+#define DOWRINGAF_LIBRARY_VERSION 1
+uint64_t dowringaf_version(void);
+
+/* The words of an object, of which a library of another version would write more or fewer. */
+#define DOWRINGAF_OBJECT_WORDS 65
+
+/* The bytes of the largest file. */
+#define DOWRINGAF_MOST_BYTES 2147483648u
+
+/* The most entries that a header has, and so the most rows. */
+#define DOWRINGAF_MOST_ENTRIES 4096
+
+/*
  * Bytes of stack that dowringaf_data_object, dowringaf_root_object and the two checks stay below,
  * and those that dowringaf_list does.
  */
-#define DOWRINGAF_DECODING_STACK 24576
-#define DOWRINGAF_LISTING_STACK 77824
+#define DOWRINGAF_DECODING_STACK 32768
+#define DOWRINGAF_LISTING_STACK 86016
 
 /* Why a superblock, a header or a lookup is refused; 0 where it is not. */
 enum dowringaf_refusal {
@@ -128,8 +163,10 @@ enum dowringaf_number {
  * What the bits of a row stand for, in C's own types; without sign they are the number. Bits are
  * copied and no value is converted, so that a signalling NaN stays one as far as C allows: what is
  * done with a float may alter its bits, and those in the row are as they were stored. The three are
- * no functions of the library, and not proved.
+ * no functions of the library, and not proved. They want <string.h>; where there is none, define
+ * DOWRINGAF_NO_INLINE before this file, and they are left out.
  */
+#ifndef DOWRINGAF_NO_INLINE
 static inline int64_t dowringaf_signed(uint64_t bits)
 {
     int64_t number;
@@ -154,6 +191,7 @@ static inline double dowringaf_double(uint64_t bits)
     memcpy(&number, &bits, sizeof number);
     return number;
 }
+#endif
 
 /* A field that may be absent: present is 1, or it is 0 and so is the value. */
 typedef struct dowringaf_optional {

@@ -6,8 +6,10 @@
  *
  * Prints the number of rows, and for each the type of its message and, of an attribute, the name,
  * and its number where it has one. A file that is refused prints `refused,` and the refusal's
- * number. The exit status is 0 for either, and 2 where the file is too large for this program or
- * there is no memory.
+ * number. The exit status is 0 for either, and 2 where the file is too large for this program,
+ * there is no memory, or the library is of another version. A file that is shorter or longer than
+ * its superblock says is told of on standard error. Names are written as the bytes that they are,
+ * which is not for a terminal: firmware/decode.c escapes them.
  */
 #include <inttypes.h>
 #include <stdio.h>
@@ -75,11 +77,17 @@ static void fill(size_t bytes, uint64_t *table, size_t rows)
 int main(void)
 {
     size_t bytes = fread(file, 1, sizeof file, stdin);
+    dowringaf_superblock block;
     dowringaf_checked checked;
     uint64_t *table;
 
-    if (bytes > MOST_BYTES) {
+    if (bytes > MOST_BYTES || dowringaf_version() != DOWRINGAF_LIBRARY_VERSION) {
         return 2;
+    }
+    block = dowringaf_super_block(file, bytes);
+    if (block.refused == 0 && block.end_of_file_address != bytes) {
+        fputs(block.end_of_file_address > bytes ? "the file is cut\n" : "the file is longer\n",
+              stderr);
     }
     checked = dowringaf_check_root_object(file, bytes);
     if (checked.refused != 0) {

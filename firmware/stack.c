@@ -1,9 +1,10 @@
 /*
  * How much stack the calls use at the deepest: in the header of a file's root 25 levels of blocks,
- * and in the last of them a type of 32 levels; and the lookup of 32 names in its table, whatever
- * they are. The proofs say nothing of the stack. Each call runs in a thread whose stack is filled
- * with a pattern before, so that it shows how far it was written; what a thread that calls nothing
- * writes is taken off. Fails where a call uses more than dowringaf.h says.
+ * and in the last of them a type of 32 levels, which is read, and one of 33, which is refused; and
+ * the lookup of 32 names in its table, whatever they are. The proofs say nothing of the stack. Each
+ * call runs in a thread whose stack is filled with a pattern before, so that it shows how far it
+ * was written; what a thread that calls nothing writes is taken off. Fails where a call uses more
+ * than dowringaf.h says.
  */
 #define _POSIX_C_SOURCE 200809L
 
@@ -15,7 +16,10 @@
 #include "dowringaf.h"
 #include "lookup3.h"
 
-enum { STACK = 1 << 18, PATTERN = 0xA5, BLOCKS = 25, TYPES = 32, SUPERBLOCK = 48, ROOM = 4096 };
+enum { STACK = 1 << 18, PATTERN = 0xA5, BLOCKS = 25, SUPERBLOCK = 48, ROOM = 4096 };
+
+/* The levels of types that are read. */
+enum { MOST_TYPES = 32 };
 
 static uint8_t file[ROOM];
 static size_t count;
@@ -62,14 +66,14 @@ static void put_continuation(size_t after, size_t length)
 }
 
 /* A variable-length type of such a type, and so on, of a fixed-point type. */
-static void put_types(void)
+static void put_types(int levels)
 {
     int i;
 
     put(3, 1);
-    put(TYPES * 8 + 4, 2);
+    put((uint64_t)levels * 8 + 4, 2);
     put(0, 1);
-    for (i = 1; i < TYPES; i++) {
+    for (i = 1; i < levels; i++) {
         put(0x19, 1);
         put(0, 3);
         put(1, 4);
@@ -100,9 +104,10 @@ static void write_superblock(void)
     count = bytes;
 }
 
-static void write_deepest(void)
+static void write_deepest(int levels)
 {
     size_t from = SUPERBLOCK;
+    size_t last = (size_t)levels * 8 + 4 + 4 + 8;
     int i;
 
     count = from;
@@ -111,12 +116,12 @@ static void write_deepest(void)
     put(0, 1);
     put(20, 1);
     for (i = 0; i < BLOCKS; i++) {
-        put_continuation(4, i < BLOCKS - 1 ? 28 : TYPES * 8 + 4 + 4 + 8);
+        put_continuation(4, i < BLOCKS - 1 ? 28 : last);
         put_sum(from);
         from = count;
         put_signature("OCHK");
     }
-    put_types();
+    put_types(levels);
     put_sum(from);
     write_superblock();
 }
@@ -189,19 +194,25 @@ static size_t written(void *(*run)(void *))
     return STACK - i;
 }
 
-static int is_deepest(uint64_t refused, uint64_t entries, uint64_t rows)
+/* Read with one row, or refused for its types. */
+static int is_deepest(int levels, uint64_t refused, uint64_t entries, uint64_t rows)
 {
+    if (levels > MOST_TYPES) {
+        return refused == DOWRINGAF_TYPE_LEVEL;
+    }
     return refused == 0 && entries == BLOCKS + 1 && rows == 1;
 }
 
-/* Whether every call read the deepest header, and names were looked up. */
-static int all_read(void)
+/* Whether every call reached the deepest place, and names were looked up. */
+static int all_reached(int levels)
 {
-    return is_deepest(object.refused, object.entries, object.rows) &&
-           is_deepest(root_object.refused, root_object.entries, root_object.rows) &&
-           is_deepest(checked.refused, checked.entries, checked.rows) &&
-           is_deepest(checked_root.refused, checked_root.entries, checked_root.rows) &&
-           listed != 0 && memcmp(out, "0,3,", 4) == 0 && names_refused == 0;
+    const char *line = levels > MOST_TYPES ? "refused,22" : "0,3,";
+
+    return is_deepest(levels, object.refused, object.entries, object.rows) &&
+           is_deepest(levels, root_object.refused, root_object.entries, root_object.rows) &&
+           is_deepest(levels, checked.refused, checked.entries, checked.rows) &&
+           is_deepest(levels, checked_root.refused, checked_root.entries, checked_root.rows) &&
+           listed != 0 && memcmp(out, line, strlen(line)) == 0 && names_refused == 0;
 }
 
 /* What a call uses, of some bytes that it may; yields 0 where it uses more. */
@@ -213,21 +224,31 @@ static int stays_below(const char *name, void *(*run)(void *), size_t none, size
     return used <= most;
 }
 
-int main(void)
+/* The calls on a header with as many levels of types. */
+static int all_stay_below(int levels, size_t none)
 {
-    size_t none = written(nothing);
     int below = 1;
 
-    write_deepest();
+    write_deepest(levels);
+    printf("stack: %d levels of types\n", levels);
     below &= stays_below("decoding", decode, none, DOWRINGAF_DECODING_STACK);
     below &= stays_below("root", decode_root, none, DOWRINGAF_DECODING_STACK);
     below &= stays_below("check", check, none, DOWRINGAF_DECODING_STACK);
     below &= stays_below("check of the root", check_root, none, DOWRINGAF_DECODING_STACK);
     below &= stays_below("names", look_up_names, none, DOWRINGAF_DECODING_STACK);
     below &= stays_below("listing", list, none, DOWRINGAF_LISTING_STACK);
-    if (!all_read()) {
-        puts("the deepest header is not read");
-        return 1;
+    if (!all_reached(levels)) {
+        puts("the deepest place is not reached");
+        return 0;
     }
+    return below;
+}
+
+int main(void)
+{
+    size_t none = written(nothing);
+    int below = all_stay_below(MOST_TYPES, none);
+
+    below &= all_stay_below(MOST_TYPES + 1, none);
     return below ? 0 : 1;
 }

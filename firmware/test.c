@@ -15,6 +15,7 @@
 
 #include "dowringaf.h"
 #include "lookup3.h"
+#include "refusals.h"
 
 /* Words of 64 bits, and nothing between them. */
 #define HAS_WORDS(type, n) typedef char type##_has_its_words[sizeof(type) == (n) * 8 ? 1 : -1]
@@ -32,7 +33,7 @@ HAS_WORDS(dowringaf_group_info, 9);
 HAS_WORDS(dowringaf_attribute_info, 8);
 HAS_WORDS(dowringaf_part, 2);
 HAS_WORDS(dowringaf_layout, 5);
-HAS_WORDS(dowringaf_object, 65);
+HAS_WORDS(dowringaf_object, DOWRINGAF_OBJECT_WORDS);
 HAS_WORDS(dowringaf_checked, 4);
 HAS_WORDS(dowringaf_found, 3);
 HAS_WORDS(dowringaf_superblock, 8);
@@ -3368,13 +3369,72 @@ static void test_names(void)
     test_random_names();
 }
 
-static int write_file(const char *path, const struct writer *w)
+/* The library is of the version that its header says. */
+static void test_version(void)
 {
-    FILE *stream = fopen(path, "wb");
-    int written = 0;
+    IS(dowringaf_version(), DOWRINGAF_LIBRARY_VERSION);
+}
 
+/* Words of plain letters, and no other refusal has them. */
+static void words_are_plain(size_t number)
+{
+    const char *words = refusal_words[number];
+    size_t i;
+
+    for (i = 0; words[i] != '\0'; i++) {
+        IS(32 <= words[i] && words[i] <= 126, 1);
+    }
+    IS(i != 0, 1);
+    for (i = 1; i < number; i++) {
+        IS(strcmp(words, refusal_words[i]) != 0, 1);
+    }
+}
+
+/* Every refusal of dowringaf.h has words, and nothing else has. */
+static void test_refusal_words(void)
+{
+    size_t number;
+
+    IS(REFUSALS, DOWRINGAF_NAMES + 1);
+    IS(refusal_words[0] == NULL, 1);
+    for (number = 1; number < REFUSALS; number++) {
+        IS(refusal_words[number] != NULL, 1);
+        words_are_plain(number);
+    }
+}
+
+/* Names and texts that would add lines and fields, or speak to a terminal. */
+static const struct {
+    const char *name;
+    const char *text;
+} hostile[] = {
+    {"Title", "ok\nrefused,28\n\033[2J"},
+    {"a,b\\x\377", " ~\177\t"},
+};
+
+static void write_hostile(struct writer *w)
+{
+    static const struct space one = {2, 0, 0, 0, {0}, {0}};
+    size_t i;
+
+    begin_root(w);
+    for (i = 0; i < sizeof hostile / sizeof hostile[0]; i++) {
+        struct numeric n = {3, TEXT, 0, 0, 0, 0, 0, 0, 0, 0, 0};
+        struct pieces p;
+
+        n.size = strlen(hostile[i].text);
+        p = put_before_value(w, hostile[i].name, &n, &one);
+        put_text(w, hostile[i].text);
+        end_entry(w, p.body);
+    }
+    end_root(w);
+    write_front(w, UINT64_MAX, w->count);
+}
+
+/* Closes what was written. Yields 0 where that is not all, and says so. */
+static int close_file(const char *path, FILE *stream, int written)
+{
     if (stream != NULL) {
-        written = fwrite(w->bytes, 1, w->count, stream) == w->count;
         written = fclose(stream) == 0 && written;
     }
     if (!written) {
@@ -3383,7 +3443,34 @@ static int write_file(const char *path, const struct writer *w)
     return written;
 }
 
-/* Writes the full header, that with undefined addresses, the numbers and the nulls, for others. */
+static int write_file(const char *path, const struct writer *w)
+{
+    FILE *stream = fopen(path, "wb");
+    int written = stream != NULL && fwrite(w->bytes, 1, w->count, stream) == w->count;
+
+    return close_file(path, stream, written);
+}
+
+/* The words of the refusals, a line for each. */
+static int write_refusals(const char *path)
+{
+    FILE *stream = fopen(path, "wb");
+    int written = stream != NULL;
+    size_t number;
+
+    for (number = 1; written && number < REFUSALS; number++) {
+        written = fprintf(stream, "%u: %s\n", (unsigned)number, refusal_words[number]) > 0;
+    }
+    return close_file(path, stream, written);
+}
+
+/* What is written for others, a path for each. */
+enum { PATHS = 6 };
+
+/*
+ * Writes the full header, that with undefined addresses, the numbers, the nulls, the hostile texts
+ * and the words of the refusals.
+ */
 static int write_files(char **paths)
 {
     uint64_t rows[NAMED * DOWRINGAF_ROW_WORDS];
@@ -3400,15 +3487,19 @@ static int write_files(char **paths)
     written &= write_file(paths[2], &w);
     write_nulls(&w, null_rows);
     written &= write_file(paths[3], &w);
-    return written;
+    write_hostile(&w);
+    written &= write_file(paths[4], &w);
+    return write_refusals(paths[5]) && written;
 }
 
-/* With four paths, also writes the four files there. */
+/* With paths, also writes the files there. */
 int main(int count, char **words)
 {
-    if (count == 5 && !write_files(words + 1)) {
+    if (count == PATHS + 1 && !write_files(words + 1)) {
         return 2;
     }
+    test_version();
+    test_refusal_words();
     test_full();
     test_refused();
     test_messages();
