@@ -744,7 +744,7 @@ static int numbers_of(int count, char **words, uint64_t *numbers)
     }
     for (i = 0; i < count; i++) {
         if (!number_of(words[i], &numbers[i])) {
-            say(words[i], "not a number");
+            say(words[i], words[i][0] == '-' ? "options stand before the file" : "not a number");
             return -1;
         }
     }

@@ -74,21 +74,28 @@ static void fill(size_t bytes, uint64_t *table, size_t rows)
     }
 }
 
+/* That a file was cut, no call says: the caller compares its length with the superblock's. */
+static void compare_end(size_t bytes)
+{
+    dowringaf_superblock block = dowringaf_super_block(file, bytes);
+
+    if (block.refused == 0 && block.end_of_file_address != bytes) {
+        fprintf(stderr, "%s: the file has %lu bytes, and its superblock says %" PRIu64 "\n",
+                bytes < block.end_of_file_address ? "cut" : "longer", (unsigned long)bytes,
+                block.end_of_file_address);
+    }
+}
+
 int main(void)
 {
     size_t bytes = fread(file, 1, sizeof file, stdin);
-    dowringaf_superblock block;
     dowringaf_checked checked;
     uint64_t *table;
 
     if (bytes > MOST_BYTES || dowringaf_version() != DOWRINGAF_LIBRARY_VERSION) {
         return 2;
     }
-    block = dowringaf_super_block(file, bytes);
-    if (block.refused == 0 && block.end_of_file_address != bytes) {
-        fputs(block.end_of_file_address > bytes ? "the file is cut\n" : "the file is longer\n",
-              stderr);
-    }
+    compare_end(bytes);
     checked = dowringaf_check_root_object(file, bytes);
     if (checked.refused != 0) {
         put_line("refused", checked.refused);
