@@ -63,7 +63,7 @@
 enum { LEAST_ROOM = 65536, DATA_LAYOUT = 8 };
 
 /* One byte more than is decoded, so that a larger file is refused without being read whole. */
-#define MOST_ROOM ((size_t)2147483649u)
+#define MOST_ROOM ((size_t)DOWRINGAF_MOST_BYTES + 1)
 
 /* The words after the file's name, in their order. */
 enum { POSITION, OFFSET_WIDTH, LENGTH_WIDTH, END_OF_FILE, NUMBERS };
