@@ -3409,7 +3409,7 @@ static const struct {
     const char *text;
 } hostile[] = {
     {"Title", "ok\nrefused,28\n\033[2J"},
-    {"a,b\\x\377", " ~\177\t"},
+    {"a,b\\x\377", " ~\177\037"},
 };
 
 static void write_hostile(struct writer *w)
