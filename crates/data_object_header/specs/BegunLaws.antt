@@ -1,5 +1,5 @@
 -- Decoding stops exactly where a header's reading does, with as many entries begun; no header has two such counts. Assumes nothing.
-use Prim.Native.Nat.{ℕ, _+_, _≤_, _<_}
+use Prim.Native.Nat.{ℕ, _+_, _≤_}
 use mathlib.Core.Path.{_≡_, refl, sym, _∙_}
 use mathlib.Core.Bool.{Bool, true, false, _&&_}
 use mathlib.Core.Logic.{_⊎_, inl, inr, ⊎-elim}
@@ -8,7 +8,7 @@ use native.Mathlib.Omega.{arith}
 use lib.ListN.{length}
 use lib.Dec.{leb}
 use borrow.Author.Tests.{leb-true, leb-false, le-leb, lt-leb}
-use Rattle.format.specs.Format.{Stands, read}
+use Rattle.format.specs.Format.{read}
 use Rattle.format.specs.Laws as formats
 use Rattle.parser.specs.declared.State.{State}
 use Rattle.parser.specs.States.{fileLimit, Widths, widthAllowed, stateFor}
@@ -20,7 +20,6 @@ use Rattle.grammar.specs.Begun.{Cause, elsewhere, more, Numbered, Stopped}
 use Rattle.grammar.specs.BegunSound.{Halted, there, later, halted, was-refused, stops-at-once, stops-as, walk-stopped}
 use Rattle.grammar.specs.BegunComplete.{nowhere-read, as-many, same-stopped, stopped-walk}
 use Rattle.ohdr_walk.specs.Sources.{source}
-use Rattle.data_object_header.specs.declared.HeaderFields.{HeaderFields}
 use Rattle.data_object_header.specs.Headers.{headerFields, header, decode}
 use Rattle.data_object_header.specs.Begun.{HeaderStops, no-fields, in-reading, DecodeStops, bad-width, too-large, in-header}
 

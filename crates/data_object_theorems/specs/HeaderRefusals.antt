@@ -8,7 +8,7 @@ use lib.ListN.{length, replicate, set}
 use lib.Dec.{eqb, leb, ltb}
 use Rattle.format.specs.Bits.{bit}
 use Rattle.format.specs.Bytes.{allOnes}
-use Rattle.format.specs.Format.{Format, done, refuse, number, Out, found, refused, read, nothing}
+use Rattle.format.specs.Format.{Format, done, refuse, number, Out, found, refused, read, nothing, bind, check}
 use Rattle.format.specs.Refusals.{RefusedWith, RefusesWith}
 use Rattle.records.specs.declared.Address.{Address}
 use Rattle.records.specs.declared.Address.the-variants as addresses
@@ -51,14 +51,19 @@ cond-address-as : (t : Bool) (w : ℕ) → As (condAddress t w)
 unfolding condAddress
 cond-address-as t w = pick-as ofHeader t (address w) (done (addresses.Number 0)) (address-as w) tt
 
+-- flags, an index of w bytes where bit 0 brings it, two addresses, and a third where bit 1 does: what link info and attribute info are made of
+indexed-as : {A : Type 0} (n w offsets : ℕ) (f : ℕ → ℕ → Address → Address → Address → A) → ofHeader n ≡ true
+    → As (number 1 (λ version. check (eqb version 0) n (number 1 (λ flags. bind (cond (bit flags 0) w) (λ i. bind (address offsets) (λ a. bind (address offsets) (λ b. bind (condAddress (bit flags 1) offsets) (λ c. done (f flags i a b c)))))))))
+indexed-as n w offsets f e = λ version. check-as ofHeader (eqb version 0) n _ e (λ flags.
+    bind-as ofHeader (cond (bit flags 0) w) _ (cond-as (bit flags 0) w) (λ _.
+    bind-as ofHeader (address offsets) _ (address-as offsets) (λ _.
+    bind-as ofHeader (address offsets) _ (address-as offsets) (λ _.
+    bind-as ofHeader (condAddress (bit flags 1) offsets) _ (cond-address-as (bit flags 1) offsets) (λ _. tt)))))
+
 -- each message
 link-info-as : (s : State) → As (linkInfo s)
 unfolding linkInfo
-link-info-as s = λ version. check-as ofHeader (eqb version 0) 10 _ refl (λ flags.
-    bind-as ofHeader (cond (bit flags 0) 8) _ (cond-as (bit flags 0) 8) (λ _.
-    bind-as ofHeader (address (s .«size_of_offsets»)) _ (address-as (s .«size_of_offsets»)) (λ _.
-    bind-as ofHeader (address (s .«size_of_offsets»)) _ (address-as (s .«size_of_offsets»)) (λ _.
-    bind-as ofHeader (condAddress (bit flags 1) (s .«size_of_offsets»)) _ (cond-address-as (bit flags 1) (s .«size_of_offsets»)) (λ _. tt)))))
+link-info-as s = indexed-as 10 8 (s .«size_of_offsets») _ refl
 
 group-info-as : As groupInfo
 unfolding groupInfo
@@ -70,11 +75,7 @@ group-info-as = λ version. check-as ofHeader (eqb version 0) 15 _ refl (λ flag
 
 attribute-info-as : (s : State) → As (attributeInfo s)
 unfolding attributeInfo
-attribute-info-as s = λ version. check-as ofHeader (eqb version 0) 18 _ refl (λ flags.
-    bind-as ofHeader (cond (bit flags 0) 2) _ (cond-as (bit flags 0) 2) (λ _.
-    bind-as ofHeader (address (s .«size_of_offsets»)) _ (address-as (s .«size_of_offsets»)) (λ _.
-    bind-as ofHeader (address (s .«size_of_offsets»)) _ (address-as (s .«size_of_offsets»)) (λ _.
-    bind-as ofHeader (condAddress (bit flags 1) (s .«size_of_offsets»)) _ (cond-address-as (bit flags 1) (s .«size_of_offsets»)) (λ _. tt)))))
+attribute-info-as s = indexed-as 18 2 (s .«size_of_offsets») _ refl
 
 fill-value-as : As fillValue
 unfolding fillValue

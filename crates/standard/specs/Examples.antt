@@ -7,10 +7,10 @@ use Rattle.format.specs.Bytes.{le}
 use Rattle.format.specs.Format.{found, read, bind}
 use Rattle.format.specs.Laws.{sound}
 use Rattle.lookup3.specs.Lookup3.{plus, minus, rotate, mixLine, mix, finalLine, finalMix, addBlock, blocks, sumOf}
-use Rattle.standard.specs.Fields.{absent, present, undefined, defined, optional, address, optionalAddress, raw, many}
+use Rattle.standard.specs.Fields.{Optional, absent, present, undefined, defined, optional, address, optionalAddress, raw, many}
 use Rattle.standard.specs.Versions.{marked}
 use Rattle.standard.specs.Superblocks.{superblock23}
-use Rattle.standard.specs.Headers.{objectHeaderPrefix, messagePrefix, HeaderMessage, headerMessage, continuationMessage, continuationSignature}
+use Rattle.standard.specs.Headers.{ObjectHeaderPrefix, objectHeaderPrefix, messagePrefix, HeaderMessage, headerMessage, continuationMessage, continuationSignature}
 use Rattle.standard.specs.Chunks.{gap, next, continued, block, ObjectHeader}
 use Rattle.standard.specs.Dataspaces.{not-stored, stored, storedSizes, dataspace1, dataspace2}
 use Rattle.standard.specs.Infos.{linkInfoMessage, groupInfoMessage, attributeInfoMessage}
@@ -219,6 +219,22 @@ continuedFile =
     ∷ 0 ∷ 0 ∷ 0 ∷ 0
     ∷ 0xE7 ∷ 0x60 ∷ 0xC8 ∷ 0xC7 ∷ []
 
+-- the prefix of a header with one time four times, or none, and without numbers of attributes
+abbrev pub plainPrefix : ℕ → Optional ℕ → ℕ → ObjectHeaderPrefix
+plainPrefix flags time size =
+    record {
+      signature = 0x5244484F;
+      version = 2;
+      flags = flags;
+      access-time = time;
+      modification-time = time;
+      change-time = time;
+      birth-time = time;
+      maximum-number-of-compact-attributes = absent;
+      minimum-number-of-dense-attributes = absent;
+      size-of-chunk-0 = size;
+    }
+
 abbrev pub plainMessage : ℕ → ℕ → ℕ → HeaderMessage
 plainMessage type position size =
     record {
@@ -230,18 +246,7 @@ unfoldable pub a-whole-header : ObjectHeader continuedFile 2 2 0 (plainMessage 1
 unfolding read bind le optional raw objectHeaderPrefix messagePrefix headerMessage address continuationMessage continuationSignature plus minus rotate mixLine mix finalLine finalMix addBlock blocks sumOf
 a-whole-header =
     record {
-      prefix = record {
-        signature = 0x5244484F;
-        version = 2;
-        flags = 0;
-        access-time = absent;
-        modification-time = absent;
-        change-time = absent;
-        birth-time = absent;
-        maximum-number-of-compact-attributes = absent;
-        minimum-number-of-dense-attributes = absent;
-        size-of-chunk-0 = 8;
-      };
+      prefix = plainPrefix 0 absent 8;
       start = 7;
       prefix-stands = sound continuedFile objectHeaderPrefix 0 7 _ refl;
       chunk =

@@ -1,6 +1,6 @@
 -- A datatype message of the standard that no listed difference turns back is read, over the same bytes. Assumes nothing.
 use Prim.Native.Nat.{ℕ, zero, suc, _+_, _≤_, _<_}
-use mathlib.Core.Path.{_≡_, refl, ap, sym, _∙_}
+use mathlib.Core.Path.{_≡_, refl, ap, sym, _∙_, subst}
 use mathlib.Core.Logic.{_⊎_, inl, inr}
 use mathlib.Core.Bool.{Bool, true, false, _||_}
 use mathlib.Core.List.{List}
@@ -177,32 +177,6 @@ module _ (s : List ℕ) (longest : ℕ) where
       let a = rw (← b .3 .1) at r in
       rw (← b .3 .1) (bind-stands s floatProperties _ p (b .0) q (ourFloat (b .1)) _ (float-fields-read p (b .0) (b .1) (b .2)) (rw (float-passes (b .1) a) (b .3 .0, refl)))
 
-  -- the properties are those of their class
-  class-of : (T : Format Datatype) (h : DatatypeHeader) (p q : ℕ) (x : Properties) → Stands s (properties longest T h) p q x → ReadFloat x → OfClass (class h) x
-  unfolding properties
-  class-of T h p q x i r = go (eqb (class h) 0) refl (eqb (class h) 1) refl (eqb (class h) 3) (eqb (class h) 6) (eqb (class h) 7) (eqb (class h) 9) refl i
-    where
-      go : (c0 : Bool) → eqb (class h) 0 ≡ c0 → (c1 : Bool) → eqb (class h) 1 ≡ c1 → (c3 c6 c7 c9 : Bool) → eqb (class h) 9 ≡ c9
-          → Stands s (
-          pick c0 (bind fixedPoint (λ f. done (fixed-point f))) (
-          pick c1 (bind floatingPoint (λ f. done (floating-point f))) (
-          pick c3 (done no-properties) (
-          pick c6 (bind (compound longest T h) (λ m. done (members m))) (
-          pick c7 (done no-properties) (
-          pick c9 (bind T (λ t. done (parent-type t))) (
-          refuse 0))))))) p q x
-          → OfClass (class h) x
-      go true e c1 d c3 c6 c7 c9 g i = let b = stands-bind s fixedPoint (λ f. done (fixed-point f)) p q x i in rw (← b .3 .1) (eqb-true (class h) 0 e)
-      go false e true d c3 c6 c7 c9 g i =
-          let b = stands-bind s floatingPoint (λ f. done (floating-point f)) p q x i in
-          let a = rw (← b .3 .1) at r in
-          rw (← b .3 .1) (eqb-true (class h) 1 d, a)
-      go false e false d true c6 c7 c9 g i = rw (← i .1) tt
-      go false e false d false true c7 c9 g i = let b = stands-bind s (compound longest T h) (λ m. done (members m)) p q x i in rw (← b .3 .1) tt
-      go false e false d false false true c9 g i = rw (← i .1) tt
-      go false e false d false false false true g i = let b = stands-bind s T (λ t. done (parent-type t)) p q x i in rw (← b .3 .1) (eqb-true (class h) 9 g)
-      go false e false d false false false false g i = absurd i
-
   -- over the types inside
   module _ (T : Format Datatype) (U : Format DataType) (types : (p q : ℕ) (t : Datatype) → Stands s T p q t → Each ReadType t → TypeRead U p q t) where
     members-read : (h : DatatypeHeader) (n p q : ℕ) (m : Members) → (version h ≡ 1) ⊎ (version h ≡ 3) → h .size < 64 → Stands s (membersOf longest h T n) p q m
@@ -241,12 +215,19 @@ module _ (s : List ℕ) (longest : ℕ) where
 
     -- by the classes of the standard's format, in its order: properties stand only of these
     properties-read : (h : DatatypeHeader) (p q : ℕ) (x : Properties) → (version h ≡ 1) ⊎ (version h ≡ 3) → Stands s (properties longest T h) p q x → ReadType h x → EachInside ReadType x
-        → (knownClass (class h) ≡ true) × PropertiesRead (ours.properties (ourHeader h) U) p q x
+        → (knownClass (class h) ≡ true) × PropertiesRead (ours.properties (ourHeader h) U) p q x × OfClass (class h) x
     unfolding properties ours.properties knownClass plain
     properties-read h p q x v i r w =
-        go (eqb (class h) 0) (eqb (class h) 1) (eqb (class h) 3) (eqb (class h) 6) refl (eqb (class h) 7) refl (eqb (class h) 9) i
+        go (eqb (class h) 0) refl (eqb (class h) 1) refl (eqb (class h) 3) (eqb (class h) 6) refl (eqb (class h) 7) refl (eqb (class h) 9) refl i
       where
-        go : (c0 c1 c3 c6 : Bool) → eqb (class h) 6 ≡ c6 → (c7 : Bool) → eqb (class h) 7 ≡ c7 → (c9 : Bool)
+        -- of a class with one kind of properties
+        of-class : {A : Type 0} (F : Format A) (con : A → Properties) → Stands s (bind F (λ a. done (con a))) p q x → ((a : A) → con a ≡ x → OfClass (class h) (con a)) → OfClass (class h) x
+        of-class F con i f = let b = stands-bind s F (λ a. done (con a)) p q x i in rw (← b .3 .1) (f (b .1) (b .3 .1))
+
+        float : (f : FloatingPoint) → floating-point f ≡ x → ReadFloat (floating-point f)
+        float f e = subst ReadFloat (sym e) (r .float)
+
+        go : (c0 : Bool) → eqb (class h) 0 ≡ c0 → (c1 : Bool) → eqb (class h) 1 ≡ c1 → (c3 c6 : Bool) → eqb (class h) 6 ≡ c6 → (c7 : Bool) → eqb (class h) 7 ≡ c7 → (c9 : Bool) → eqb (class h) 9 ≡ c9
             → Stands s (
             pick c0 (bind fixedPoint (λ f. done (fixed-point f))) (
             pick c1 (bind floatingPoint (λ f. done (floating-point f))) (
@@ -261,15 +242,15 @@ module _ (s : List ℕ) (longest : ℕ) where
             pick (c3 || c7) (done optionFormats.None) (
             pick c6 (times (memberCount h) (ours.member (version h) (h .size) U) (done optionFormats.None)) (
             pick c9 (listProperties U) (
-            refuse 11)))))) p q (formatIn x)
-        go true c1 c3 c6 e c7 d c9 i = (refl, fixed-read p q x i)
-        go false true c3 c6 e c7 d c9 i = (refl, float-read p q x i (r .float))
-        go false false true c6 e c7 d c9 i = (refl, rw (← i .1) (i .0, refl))
-        go false false false true e true d c9 i = let z = eqb-true (class h) 6 e in let y = eqb-true (class h) 7 d in absurd (omega arith)
-        go false false false true e false d c9 i = (refl, compound-read h p q x v i r w)
-        go false false false false e true d c9 i = (refl, rw (← i .1) (i .0, refl))
-        go false false false false e false d true i = (refl, parent-read p q x i w)
-        go false false false false e false d false i = absurd i
+            refuse 11)))))) p q (formatIn x) × OfClass (class h) x
+        go true a c1 b c3 c6 e c7 d c9 g i = (refl, fixed-read p q x i, of-class fixedPoint fixed-point i (λ f k. eqb-true (class h) 0 a))
+        go false a true b c3 c6 e c7 d c9 g i = (refl, float-read p q x i (r .float), of-class floatingPoint floating-point i (λ f k. (eqb-true (class h) 1 b, float f k)))
+        go false a false b true c6 e c7 d c9 g i = (refl, rw (← i .1) (i .0, refl), rw (← i .1) tt)
+        go false a false b false true e true d c9 g i = let z = eqb-true (class h) 6 e in let y = eqb-true (class h) 7 d in absurd (omega arith)
+        go false a false b false true e false d c9 g i = (refl, compound-read h p q x v i r w, of-class (compound longest T h) members i (λ m k. tt))
+        go false a false b false false e true d c9 g i = (refl, rw (← i .1) (i .0, refl), rw (← i .1) tt)
+        go false a false b false false e false d true g i = (refl, parent-read p q x i w, of-class T parent-type i (λ t k. eqb-true (class h) 9 g))
+        go false a false b false false e false d false g i = absurd i
 
     type-read : (p q : ℕ) (t : Datatype) → Stands s (datatypeOf longest T) p q t → Each ReadType t → TypeRead (typeLayer U) p q t
     unfolding datatypeOf
@@ -283,8 +264,7 @@ module _ (s : List ℕ) (longest : ℕ) where
         let f = formatIn (c .1) in
         let z = layer-read s U p (a .0) q (ourHeader h) f (header-read s p (a .0) h (a .2) (b .0) (y .0) (w′ .0 .small-size)) (y .1) in
         let e : SameHeader (typeOf (ourHeader h) f) h = record { class-and-version = refl; class-bit-field = refl; size = refl; list-size = refl } in
-        let k = class-of T h (a .0) q (c .1) (rw (c .3 .0) at (c .2)) (w′ .0 .float) in
-        let r : TypeRead (typeLayer U) p q (datatype h (c .1)) = record { value = typeOf (ourHeader h) f; stands = z; related = record { header = e; properties = refl; of-class = k; members = scalar-members (datatype h (c .1)) w′ } } in
+        let r : TypeRead (typeLayer U) p q (datatype h (c .1)) = record { value = typeOf (ourHeader h) f; stands = z; related = record { header = e; properties = refl; of-class = y .2; members = scalar-members (datatype h (c .1)) w′ } } in
         rw (← c .3 .1) r
 
   -- A datatype message of the standard with at most so many datatype messages one inside another, none of which a listed difference turns back, is read

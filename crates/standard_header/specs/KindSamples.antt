@@ -21,7 +21,7 @@ use Rattle.standard.specs.Infos.{linkInfoMessage, groupInfoMessage, attributeIn
 use Rattle.standard.specs.Storage.{fillValueOld, sizeAndFillValue, fillFields12, fillValue12, fillValue3, fillValueMessage, compactStorage, contiguousStorage, layoutProperties, dataLayout3}
 use Rattle.standard.specs.Storage.{filterFields1, filterDescription1, pipelineFields1, filterPipeline1, filterFields2, filterDescription2, pipelineFields2, filterPipeline2, filterPipelineMessage}
 use Rattle.standard.specs.Attributes.{sizes1, sizes3, sized, described, attribute1, attribute3, attributeMessage}
-use Rattle.standard.specs.Examples.{plainMessage}
+use Rattle.standard.specs.Examples.{plainPrefix, plainMessage}
 use Rattle.standard_messages.specs.Differences.{scalar-with-sizes}
 use Rattle.standard_header.specs.ReadHeaders.{ReadBody, dataspace, link-info, datatype, fill-value-old, fill-value, data-layout, group-info, attribute-info, filter-pipeline, attribute, attribute-of-version-1, attribute-of-version-3, not-read, ReadMessage, levels, ReadObjectHeader}
 use Rattle.standard_header.specs.Is.{readTypes}
@@ -95,18 +95,7 @@ unfoldable its-header : ObjectHeader kinds 2 2 0 kindMessages
 unfolding read bind le optional raw objectHeaderPrefix messagePrefix headerMessage plus minus rotate mixLine mix finalLine finalMix addBlock blocks sumOf
 its-header =
     record {
-      prefix = record {
-        signature = 0x5244484F;
-        version = 2;
-        flags = 1;
-        access-time = absent;
-        modification-time = absent;
-        change-time = absent;
-        birth-time = absent;
-        maximum-number-of-compact-attributes = absent;
-        minimum-number-of-dense-attributes = absent;
-        size-of-chunk-0 = 355;
-      };
+      prefix = plainPrefix 1 absent 355;
       start = 8;
       prefix-stands = sound kinds objectHeaderPrefix 0 8 _ refl;
       chunk =

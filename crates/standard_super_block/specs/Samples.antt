@@ -15,10 +15,11 @@ use Rattle.lookup3.specs.Lookup3.{plus, minus, rotate, mixLine, mix, finalLine,
 use Rattle.data_object_check.specs.declared.CheckAnswer.{CheckAnswer}
 use Rattle.data_object_check.specs.declared.CheckAnswer.the-variants as checks
 use Rattle.data_object_root.specs.Root.{CheckedRoot}
-use Rattle.standard.specs.Fields.{absent, present, undefined, defined, optional, address, optionalAddress, raw}
+use Rattle.standard.specs.Fields.{present, undefined, defined, optional, address, optionalAddress, raw}
 use Rattle.standard.specs.Headers.{HeaderMessage, objectHeaderPrefix, messagePrefix, headerMessage}
 use Rattle.standard.specs.Chunks.{next, gap, ObjectHeader}
 use Rattle.standard.specs.Infos.{linkInfoMessage, groupInfoMessage, attributeInfoMessage}
+use Rattle.standard.specs.Examples.{plainPrefix}
 use Rattle.standard.specs.Superblocks.{Superblock, superblock23}
 use Rattle.standard_header.specs.Is.{readTypes}
 use Rattle.standard_header.specs.Among.{none-among}
@@ -94,18 +95,7 @@ unfoldable its-header : ObjectHeader tester 8 8 48 testerMessages
 unfolding read bind le optional raw objectHeaderPrefix messagePrefix headerMessage plus minus rotate mixLine mix finalLine finalMix addBlock blocks sumOf
 its-header =
     record {
-      prefix = record {
-        signature = 0x5244484F;
-        version = 2;
-        flags = 0b101101;
-        access-time = present 1487782119;
-        modification-time = present 1487782119;
-        change-time = present 1487782119;
-        birth-time = present 1487782119;
-        maximum-number-of-compact-attributes = absent;
-        minimum-number-of-dense-attributes = absent;
-        size-of-chunk-0 = 500;
-      };
+      prefix = plainPrefix 0b101101 (present 1487782119) 500;
       start = 72;
       prefix-stands = sound tester objectHeaderPrefix 48 72 _ refl;
       chunk =
