@@ -28,7 +28,7 @@ use Rattle.standard_messages.specs.Same.{SameSpace, SameLinkInfo, SameGroupInfo
 use Rattle.standard_datatype.specs.Same.{SameType}
 use Rattle.standard_attribute.specs.Same.{SameName, SameAttribute}
 use Rattle.standard_header.specs.Same.{SameMessage, SameContinued, noContinuations}
-use Rattle.standard_header.specs.ReadHeaders.{ReadBody, dataspace, link-info, datatype, fill-value-old, fill-value, data-layout, group-info, attribute-info, filter-pipeline, attribute, attribute-of-version-1, attribute-of-version-3, not-read, ReadMessage, CheckedObjectHeader, headerEnd}
+use Rattle.standard_header.specs.ReadHeaders.{ReadBody, dataspace, link-info, datatype, fill-value-old, fill-value, data-layout, group-info, attribute-info, filter-pipeline, attribute, attribute-of-version-1, attribute-of-version-3, not-read, ReadMessage, CheckedObjectHeader, nextAfter}
 
 module _ (file : List ℕ) (s : State) where
   -- What is kept of a message: the record with the fields of the specification's message that stands in its data. Of an attribute that is accepted by
@@ -69,7 +69,7 @@ module _ (file : List ℕ) (offsets lengths end at n : ℕ) where
   -- the call's answer: it ends where the header ends, and counts its messages; they are the entries, those that are no continuations are the rows, in
   -- their order, and the records are those that win
   pub record AcceptedAs (xs : List HeaderMessage) (h : CheckedObjectHeader file offsets lengths end at xs) (r : DataObject) (t : List ℕ) : Type 0 where
-    pub answer : r .answer ≡ answers.Read (headerEnd (h .header)) (length xs)
+    pub answer : r .answer ≡ answers.Read (nextAfter (h .header)) (length xs)
     pub row-count : r .rows ≡ length (noContinuations xs)
     pub items : List Item
     pub entries : EntriesAs file (stateFor offsets lengths end) xs (h .messages-read) items

@@ -21,7 +21,7 @@ use Rattle.data_object.specs.declared.DataObject.{DataObject}
 use Rattle.data_object.specs.Decoded.{Accepted, Meant, Decoded}
 use Rattle.standard.specs.Headers.{HeaderMessage}
 use Rattle.standard_header.specs.Same.{noContinuations}
-use Rattle.standard_header.specs.ReadHeaders.{CheckedObjectHeader, ReadObjectHeader, headerEnd}
+use Rattle.standard_header.specs.ReadHeaders.{CheckedObjectHeader, ReadObjectHeader, nextAfter}
 use Rattle.standard_header.specs.AcceptedAs.{AcceptedAs}
 use Rattle.standard_header.specs.AsLaws.{entries-counted}
 use Rattle.standard_header.specs.HeaderReads.{HeaderRead, header-has-reading}
@@ -31,7 +31,7 @@ module _ (file : List ℕ) (offsets lengths end at : ℕ) (xs : List HeaderMessa
   -- the header's reading, within the limits, and its numbers
   record Read (h : CheckedObjectHeader file offsets lengths end at xs) : Type 0 where
     of : HeaderRead file (stateFor offsets lengths end) at xs (h .header) (h .messages-read)
-    checkable : Checkable file offsets lengths end at (headerEnd (h .header)) (of .items)
+    checkable : Checkable file offsets lengths end at (nextAfter (h .header)) (of .items)
     entry-count : length (of .items) ≡ length xs
     row-count : messages (of .items) ≡ length (noContinuations xs)
 
@@ -44,10 +44,10 @@ module _ (file : List ℕ) (offsets lengths end at : ℕ) (xs : List HeaderMessa
 
   -- the check passes it, with its end and its numbers
   pub header-passes : (h : CheckedObjectHeader file offsets lengths end at xs) (a : CheckAnswer) → Checked file offsets lengths end at a
-      → a ≡ checks.Passed (record { next = headerEnd (h .header); entries = length xs; rows = length (noContinuations xs) })
+      → a ≡ checks.Passed (record { next = nextAfter (h .header); entries = length xs; rows = length (noContinuations xs) })
   header-passes h a c =
       let y = has-reading h in
-      c .accepts (headerEnd (h .header)) (y .of .items) (y .checkable) ∙ figured (headerEnd (h .header)) (y .entry-count) (y .row-count)
+      c .accepts (nextAfter (h .header)) (y .of .items) (y .checkable) ∙ figured (nextAfter (h .header)) (y .entry-count) (y .row-count)
     where
       figured : (next : ℕ) {i j k l : ℕ} → i ≡ j → k ≡ l → checks.Passed (record { next = next; entries = i; rows = k }) ≡ checks.Passed (record { next = next; entries = j; rows = l })
       figured next e d = rw (e, d) refl
@@ -58,7 +58,7 @@ module _ (file : List ℕ) (offsets lengths end at : ℕ) (xs : List HeaderMessa
   header-is-accepted n h r t d =
       let y = has-reading (h .checked) in
       let is = y .of .items in
-      let next = headerEnd (h .checked .header) in
+      let next = nextAfter (h .checked .header) in
       let f : r .answer ≡ answers.Read next (length xs) = d .accepts next is (record { checkable = y .checkable; room = omega (arith, y .row-count, h .room) }) ∙ ap (λ (c : ℕ). answers.Read next c) (y .entry-count) in
       let a : Accepted file offsets lengths end at n next (length xs) r t = subst (λ (x : Answer). Meant file offsets lengths end at n x r t) f (d .meant) in
       let u = header-unique file (stateFor offsets lengths end) at next next (a .items) is (a .readable .checkable .reading) (y .of .reading) in

@@ -52,8 +52,7 @@ use Rattle.ohdr_attribute.specs.Attributes.{padding, typeSpaceValue, attributeF
 use Rattle.standard_header.specs.Same.{SameHeader, SamePrefix, SameContinued}
 use Rattle.standard_header.specs.Is.{readTypes}
 use Rattle.standard_header.specs.Prefixes.{header-tied, width-same, prefix-tied}
-use Rattle.standard_header.specs.ReadHeaders.{ReadPrefix, ReadBody, dataspace, link-info, datatype, fill-value-old, fill-value, data-layout, group-info, attribute-info, filter-pipeline, attribute, attribute-of-version-1, attribute-of-version-3, not-read, ReadMessage, levels, blockLevelsOf}
-use Rattle.standard_header.specs.ReadHeaders as conditions
+use Rattle.standard_header.specs.ReadHeaders.{ReadPrefix, ReadBody, dataspace, link-info, datatype, fill-value-old, fill-value, data-layout, group-info, attribute-info, filter-pipeline, attribute, attribute-of-version-1, attribute-of-version-3, not-read, ReadMessage, levels, blockLevelsOf, nextAfter}
 use Rattle.standard_header.specs.AcceptedAs.{BodyAs, MessageAs, EntriesAs}
 use Rattle.standard_header.specs.AsLaws.{every-left, every-right, entries-append}
 
@@ -423,7 +422,7 @@ module _ (file : List ℕ) where
 module _ (file : List ℕ) (s : State) (at : ℕ) (xs : List HeaderMessage) (h : ObjectHeader file (s .«size_of_offsets») (s .«size_of_lengths») at xs) (m : Every (ReadMessage file s) xs) where
   pub record HeaderRead : Type 0 where
     pub items : List Item
-    pub reading : HeaderReading file s at (conditions.headerEnd h) items
+    pub reading : HeaderReading file s at (nextAfter h) items
     pub related : EntriesAs file s xs m items
 
   run-flags : (f g n k level p e : ℕ) → f ≡ g → n ≡ k → RunRead file s g level p (e + k) xs m → RunRead file s f level p (e + n) xs m

@@ -19,6 +19,7 @@ use Rattle.records.specs.declared.Attribute.{Attribute}
 use Rattle.records.specs.declared.Number.{Number}
 use Rattle.records.specs.declared.Value.{Value}
 use Rattle.records.specs.Numbers.{numberCase, numberBits, valueText, valueCase, valueBits}
+use Rattle.row.specs.declared.Row.{Row}
 use Rattle.parser.specs.declared.State.{State}
 use Rattle.grammar.specs.Message.{Kept, Message}
 use Rattle.grammar.specs.Message as messages
@@ -81,6 +82,13 @@ module _ (file : List ℕ) (s : State) where
   -- what an attribute's row has of its value
   abbrev pub ValueAt : ℕ → ℕ → Value → Type 0
   ValueAt b q v = TextAt b q (valueText v) × NumberAt b q (valueCase v) (valueBits v)
+
+-- A row of type 12 has the number that the specification's attribute message at its body has: wherever that stands with one, whatever bounds its format
+-- has, the row's last two words are case and bits of the number that its data field is by the table of its class.
+abbrev pub NumberInRow : List ℕ → ℕ → Row → Type 0
+NumberInRow file size-of-lengths row =
+    row .kind ≡ 12 → (longest levels upto : ℕ) (x : standard.Attribute) → Stands file (attributeMessage longest levels size-of-lengths) (row .body) upto x → NumberValue size-of-lengths x
+    → (n : Number) × (row .«number_case» ≡ numberCase n) × (row .«number_bits» ≡ numberBits n) × SameNumber file (describedOf x .datatype) (dataOf x .position) n
 
 module _ (file : List ℕ) where
   abbrev pub GroupInfoAt : ℕ → ℕ → GroupInfo → Type 0

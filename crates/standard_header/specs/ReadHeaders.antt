@@ -107,5 +107,5 @@ module _ (file : List ℕ) (offsets lengths end at : ℕ) where
     pub room : length (noContinuations xs) ≤ n / rowWords
 
 -- behind the checksum, which follows chunk #0
-abbrev pub headerEnd : {file : List ℕ} {offsets lengths at : ℕ} {xs : List HeaderMessage} → ObjectHeader file offsets lengths at xs → ℕ
-headerEnd h = h .start + h .prefix .size-of-chunk-0 + 4
+abbrev pub nextAfter : {file : List ℕ} {offsets lengths at : ℕ} {xs : List HeaderMessage} → ObjectHeader file offsets lengths at xs → ℕ
+nextAfter h = h .start + h .prefix .size-of-chunk-0 + 4

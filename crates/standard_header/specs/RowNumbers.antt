@@ -8,9 +8,6 @@ use native.Mathlib.Omega.{arith}
 use lib.Dec.{ltb}
 use borrow.Author.Tests.{ltb-true, ltb-false}
 use Rattle.format.specs.Bytes.{AreBytes}
-use Rattle.format.specs.Format.{Stands}
-use Rattle.records.specs.declared.Number.{Number}
-use Rattle.records.specs.Numbers.{numberCase, numberBits}
 use Rattle.row.specs.declared.Row.{Row}
 use Rattle.row.specs.Rows.{rowAt, firstRows}
 use Rattle.parser.specs.States.{stateFor}
@@ -22,18 +19,9 @@ use Rattle.data_object.specs.declared.Answer.the-variants as answers
 use Rattle.data_object.specs.declared.DataObject.{DataObject}
 use Rattle.data_object.specs.Decoded.{Accepted, Meant, Decoded}
 use Rattle.data_object.specs.DecodedLaws.{accepted-rows}
-use Rattle.standard.specs.Attributes.{Attribute, attributeMessage}
-use Rattle.standard_attribute.specs.SameNumbers.{SameNumber}
-use Rattle.standard_attribute.specs.ReadValues.{NumberValue, describedOf, dataOf}
+use Rattle.standard_header.specs.Is.{NumberInRow}
 use Rattle.standard_header.specs.HeaderIs.{RowIs}
 use Rattle.standard_header.specs.Readings.{reading-is, each-message}
-
--- A row of type 12 has the number that the specification's attribute message at its body has: wherever that stands with one, whatever bounds its format
--- has, the row's last two words are case and bits of the number that its data field is by the table of its class.
-abbrev pub NumberInRow : List ℕ → ℕ → Row → Type 0
-NumberInRow file size-of-lengths row =
-    row .kind ≡ 12 → (longest levels upto : ℕ) (x : Attribute) → Stands file (attributeMessage longest levels size-of-lengths) (row .body) upto x → NumberValue size-of-lengths x
-    → (n : Number) × (row .«number_case» ≡ numberCase n) × (row .«number_bits» ≡ numberBits n) × SameNumber file (describedOf x .datatype) (dataOf x .position) n
 
 -- P holds of each row, so of those of messages, of the first of two lists and of the second, and of row i
 abbrev EachRow : (Row → Type 0) → List Row → Type 0

@@ -15,7 +15,7 @@ use Rattle.standard.specs.Fields.{defined}
 use Rattle.standard.specs.Headers.{HeaderMessage}
 use Rattle.standard.specs.Superblocks.{Superblock, superblock23}
 use Rattle.standard_header.specs.Same.{noContinuations}
-use Rattle.standard_header.specs.ReadHeaders.{headerEnd}
+use Rattle.standard_header.specs.ReadHeaders.{nextAfter}
 use Rattle.standard_header.specs.Accepts.{header-passes, header-is-accepted}
 use Rattle.standard_super_block.specs.Same.{SameSuperBlock}
 use Rattle.standard_super_block.specs.ReadSuperblocks.{ReadSuperblock}
@@ -39,7 +39,7 @@ module _ (file : List ℕ) (q : ℕ) (x : Superblock) (h : Stands file superbloc
   by-answer P e d = rw (← e) d
 
   pub root-passes : (o : CheckedRootHeader file r xs) (a : CheckAnswer) → CheckedRoot file a
-      → a ≡ checks.Passed (record { next = headerEnd (o .header); entries = length xs; rows = length (noContinuations xs) })
+      → a ≡ checks.Passed (record { next = nextAfter (o .header); entries = length xs; rows = length (noContinuations xs) })
   root-passes o a d =
       let b = superblock-is-read file q x h r in
       header-passes file (x .size-of-offsets) (x .size-of-lengths) (r .end-of-file) (r .root) xs o a

@@ -15,7 +15,8 @@ use Rattle.super_block.specs.Laws.{super-block-read}
 use Rattle.data_object_words.specs.Laws.{rows-word}
 use Rattle.data_object_root.specs.Root.{HandedBy, HandedRoot}
 use Rattle.standard.specs.Superblocks.{Superblock, superblock23}
-use Rattle.standard_header.specs.RowNumbers.{NumberInRow, decoded-numbers}
+use Rattle.standard_header.specs.Is.{NumberInRow}
+use Rattle.standard_header.specs.RowNumbers.{decoded-numbers}
 use Rattle.standard_super_block.specs.Ties.{super-block-tied}
 
 module _ (file : List ℕ) (bytes : AreBytes file) (n : ℕ) (t w : List ℕ) where
