@@ -14,8 +14,8 @@ use Rattle.parser.specs.declared.State.{State}
 use Rattle.parser.specs.States.{fileLimit, Widths, widthAllowed, stateFor}
 use Rattle.parser.specs.StateLaws.{allowed, widths-of}
 use Rattle.grammar.specs.Grammar.{Item}
-use Rattle.grammar.specs.Walk.{Went, stopped, begun, Limits, start, walk}
-use Rattle.grammar.specs.WalkLaws.{choose-yes, choose-no, chose, was-found, found-then, refused-then, Fit}
+use Rattle.grammar.specs.Walk.{Went, stopped, begun, Limits, start, walk, Fit}
+use Rattle.grammar.specs.WalkLaws.{choose-yes, choose-no, chose, was-found, found-then, refused-then}
 use Rattle.grammar.specs.Begun.{Cause, elsewhere, more, Numbered, Stopped}
 use Rattle.grammar.specs.BegunSound.{Halted, there, later, halted, was-refused, stops-at-once, stops-as, walk-stopped}
 use Rattle.grammar.specs.BegunComplete.{nowhere-read, as-many, same-stopped, stopped-walk}

@@ -23,8 +23,8 @@ use Rattle.parser.specs.declared.NewState.the-variants as states
 use Rattle.parser.specs.States.{fileLimit, Widths, stateFor, stateOf}
 use Rattle.parser.specs.StateLaws.{made, unmade, allowed}
 use Rattle.grammar.specs.Grammar.{Item, Reading}
-use Rattle.grammar.specs.Walk.{reached, stopped, begun, Limits, start, walk}
-use Rattle.grammar.specs.WalkLaws.{first, was-found, found-then, refused-then, choose-yes, choose-no, Fit}
+use Rattle.grammar.specs.Walk.{reached, stopped, begun, Limits, start, walk, Fit}
+use Rattle.grammar.specs.WalkLaws.{first, was-found, found-then, refused-then, choose-yes, choose-no}
 use Rattle.grammar.specs.Theorems.{sound, complete}
 use Rattle.grammar.specs.Unique.{unique}
 use Rattle.ohdr_walk.specs.Sources.{source}

@@ -14,8 +14,8 @@ use Rattle.parser.specs.States.{fileLimit, widthAllowed, stateFor}
 use Rattle.parser.specs.StateLaws.{widths-of}
 use Rattle.grammar.specs.Grammar.{Item}
 use Rattle.grammar.specs.Table.{messages}
-use Rattle.grammar.specs.Walk.{reached, Limits, entryLimit, lent, withoutTable, start}
-use Rattle.grammar.specs.WalkLaws.{passed, Fit, fit-lent, fit-without}
+use Rattle.grammar.specs.Walk.{reached, Limits, entryLimit, lent, withoutTable, start, Fit}
+use Rattle.grammar.specs.WalkLaws.{passed, fit-lent, fit-without}
 use Rattle.grammar.specs.Beside.{Beside, both-stop, chosen, after-read, walk-beside}
 use Rattle.ohdr_walk.specs.Sources.{source}
 use Rattle.data_object_header.specs.Headers.{headerFields, header, decode, Checkable}

@@ -33,7 +33,7 @@ use Rattle.ohdr_entry.specs.Entries.{plainBody, layoutBody, attributeBody, body
 use Rattle.ohdr_walk.specs.Sources.{source}
 use Rattle.data_object_header.specs.Headers.{ohdr, headerFields, header}
 use Rattle.data_object_theorems.specs.Refusals.{ofHeader}
-use Rattle.format.specs.RefusalLaws.{read-as, bind-as, times-as, pick-as, check-as}
+use Rattle.format.specs.RefusalLaws.{read-refused, bind-refuses, times-refuses, pick-refuses, check-refuses}
 
 abbrev As : {A : Type 0} → Format A → Type 0
 As F = RefusesWith ofHeader F
@@ -45,20 +45,20 @@ address-as w = λ n. tt
 
 cond-as : (t : Bool) (w : ℕ) → As (cond t w)
 unfolding cond
-cond-as t w = pick-as ofHeader t (number w done) (done 0) (λ v. tt) tt
+cond-as t w = pick-refuses ofHeader t (number w done) (done 0) (λ v. tt) tt
 
 cond-address-as : (t : Bool) (w : ℕ) → As (condAddress t w)
 unfolding condAddress
-cond-address-as t w = pick-as ofHeader t (address w) (done (addresses.Number 0)) (address-as w) tt
+cond-address-as t w = pick-refuses ofHeader t (address w) (done (addresses.Number 0)) (address-as w) tt
 
 -- flags, an index of w bytes where bit 0 brings it, two addresses, and a third where bit 1 does: what link info and attribute info are made of
 indexed-as : {A : Type 0} (n w offsets : ℕ) (f : ℕ → ℕ → Address → Address → Address → A) → ofHeader n ≡ true
     → As (number 1 (λ version. check (eqb version 0) n (number 1 (λ flags. bind (cond (bit flags 0) w) (λ i. bind (address offsets) (λ a. bind (address offsets) (λ b. bind (condAddress (bit flags 1) offsets) (λ c. done (f flags i a b c)))))))))
-indexed-as n w offsets f e = λ version. check-as ofHeader (eqb version 0) n _ e (λ flags.
-    bind-as ofHeader (cond (bit flags 0) w) _ (cond-as (bit flags 0) w) (λ _.
-    bind-as ofHeader (address offsets) _ (address-as offsets) (λ _.
-    bind-as ofHeader (address offsets) _ (address-as offsets) (λ _.
-    bind-as ofHeader (condAddress (bit flags 1) offsets) _ (cond-address-as (bit flags 1) offsets) (λ _. tt)))))
+indexed-as n w offsets f e = λ version. check-refuses ofHeader (eqb version 0) n _ e (λ flags.
+    bind-refuses ofHeader (cond (bit flags 0) w) _ (cond-as (bit flags 0) w) (λ _.
+    bind-refuses ofHeader (address offsets) _ (address-as offsets) (λ _.
+    bind-refuses ofHeader (address offsets) _ (address-as offsets) (λ _.
+    bind-refuses ofHeader (condAddress (bit flags 1) offsets) _ (cond-address-as (bit flags 1) offsets) (λ _. tt)))))
 
 -- each message
 link-info-as : (s : State) → As (linkInfo s)
@@ -67,11 +67,11 @@ link-info-as s = indexed-as 10 8 (s .«size_of_offsets») _ refl
 
 group-info-as : As groupInfo
 unfolding groupInfo
-group-info-as = λ version. check-as ofHeader (eqb version 0) 15 _ refl (λ flags.
-    bind-as ofHeader (cond (bit flags 0) 2) _ (cond-as (bit flags 0) 2) (λ _.
-    bind-as ofHeader (cond (bit flags 0) 2) _ (cond-as (bit flags 0) 2) (λ _.
-    bind-as ofHeader (cond (bit flags 1) 2) _ (cond-as (bit flags 1) 2) (λ _.
-    bind-as ofHeader (cond (bit flags 1) 2) _ (cond-as (bit flags 1) 2) (λ _. tt)))))
+group-info-as = λ version. check-refuses ofHeader (eqb version 0) 15 _ refl (λ flags.
+    bind-refuses ofHeader (cond (bit flags 0) 2) _ (cond-as (bit flags 0) 2) (λ _.
+    bind-refuses ofHeader (cond (bit flags 0) 2) _ (cond-as (bit flags 0) 2) (λ _.
+    bind-refuses ofHeader (cond (bit flags 1) 2) _ (cond-as (bit flags 1) 2) (λ _.
+    bind-refuses ofHeader (cond (bit flags 1) 2) _ (cond-as (bit flags 1) 2) (λ _. tt)))))
 
 attribute-info-as : (s : State) → As (attributeInfo s)
 unfolding attributeInfo
@@ -83,71 +83,71 @@ fill-value-as = λ size. tt
 
 fill-12-as : As fill12
 unfolding fill12
-fill-12-as = λ allocation. check-as ofHeader (eqb allocation 2 || eqb allocation 3) 12 _ refl (λ write.
-    check-as ofHeader (eqb write 2) 12 _ refl (λ defined.
-    check-as ofHeader (leb defined 1) 12 _ refl (
-    pick-as ofHeader (eqb defined 1) fillValue nothing fill-value-as tt)))
+fill-12-as = λ allocation. check-refuses ofHeader (eqb allocation 2 || eqb allocation 3) 12 _ refl (λ write.
+    check-refuses ofHeader (eqb write 2) 12 _ refl (λ defined.
+    check-refuses ofHeader (leb defined 1) 12 _ refl (
+    pick-refuses ofHeader (eqb defined 1) fillValue nothing fill-value-as tt)))
 
 fill-3-as : As fill3
 unfolding fill3
-fill-3-as = λ flags. pick-as ofHeader (bit flags 5) fillValue nothing fill-value-as tt
+fill-3-as = λ flags. pick-refuses ofHeader (bit flags 5) fillValue nothing fill-value-as tt
 
 fill-as : As fill
 unfolding fill
-fill-as = λ version. pick-as ofHeader (eqb version 1 || eqb version 2) fill12 _ fill-12-as (pick-as ofHeader (eqb version 3) fill3 _ fill-3-as refl)
+fill-as = λ version. pick-refuses ofHeader (eqb version 1 || eqb version 2) fill12 _ fill-12-as (pick-refuses ofHeader (eqb version 3) fill3 _ fill-3-as refl)
 
 filter-1-as : As filter1
 unfolding filter1
-filter-1-as = λ _ _ _ n. check-as ofHeader (leb n 4096) 16 _ refl tt
+filter-1-as = λ _ _ _ n. check-refuses ofHeader (leb n 4096) 16 _ refl tt
 
 filter-2-as : As filter2
 unfolding filter2
-filter-2-as = λ _ _ n. check-as ofHeader (leb n 4096) 16 _ refl tt
+filter-2-as = λ _ _ n. check-refuses ofHeader (leb n 4096) 16 _ refl tt
 
 filter-as : (version : ℕ) → As (filterOf version)
 unfolding filterOf
-filter-as version = pick-as ofHeader (eqb version 1) filter1 filter2 filter-1-as filter-2-as
+filter-as version = pick-refuses ofHeader (eqb version 1) filter1 filter2 filter-1-as filter-2-as
 
 reserved-as : (version : ℕ) → As (reserved version)
 unfolding reserved
-reserved-as version = pick-as ofHeader (eqb version 1) _ nothing (λ zeros. check-as ofHeader (eqb zeros 0) 16 nothing refl tt) tt
+reserved-as version = pick-refuses ofHeader (eqb version 1) _ nothing (λ zeros. check-refuses ofHeader (eqb zeros 0) 16 nothing refl tt) tt
 
 filters-as : As filterPipeline
 unfolding filterPipeline
-filters-as = λ version. check-as ofHeader (eqb version 1 || eqb version 2) 16 _ refl (λ n.
-    check-as ofHeader (ltb n 32) 16 _ refl (
-    bind-as ofHeader (reserved version) _ (reserved-as version) (λ _. times-as ofHeader n (filterOf version) nothing (filter-as version) tt)))
+filters-as = λ version. check-refuses ofHeader (eqb version 1 || eqb version 2) 16 _ refl (λ n.
+    check-refuses ofHeader (ltb n 32) 16 _ refl (
+    bind-refuses ofHeader (reserved version) _ (reserved-as version) (λ _. times-refuses ofHeader n (filterOf version) nothing (filter-as version) tt)))
 
 raw-data-as : (s : State) (size : ℕ) (a : Address) → As (rawData s size a)
 unfolding rawData dataFrom
 raw-data-as s size addresses.Undefined = tt
-raw-data-as s size (addresses.Number n) = pick-as ofHeader (addressValid s n) _ _ (tt, λ _. tt) tt
+raw-data-as s size (addresses.Number n) = pick-refuses ofHeader (addressValid s n) _ _ (tt, λ _. tt) tt
 
 contiguous-as : (s : State) → As (contiguous s)
 unfolding contiguous
-contiguous-as s = bind-as ofHeader (address (s .«size_of_offsets»)) _ (address-as (s .«size_of_offsets»)) (λ a size.
-    check-as ofHeader (ltb size 268435456) 13 _ refl (
-    bind-as ofHeader (rawData s size a) _ (raw-data-as s size a) (λ _. tt)))
+contiguous-as s = bind-refuses ofHeader (address (s .«size_of_offsets»)) _ (address-as (s .«size_of_offsets»)) (λ a size.
+    check-refuses ofHeader (ltb size 268435456) 13 _ refl (
+    bind-refuses ofHeader (rawData s size a) _ (raw-data-as s size a) (λ _. tt)))
 
 layout-as : (s : State) → As (dataLayout s)
 unfolding dataLayout compact
-layout-as s = λ version. check-as ofHeader (eqb version 3) 13 _ refl (λ class.
-    pick-as ofHeader (eqb class 0) compact _ (λ size. tt) (
-    pick-as ofHeader (eqb class 1) (contiguous s) _ (contiguous-as s) (
-    pick-as ofHeader (eqb class 2) (refuse 14) (refuse 13) refl refl)))
+layout-as s = λ version. check-refuses ofHeader (eqb version 3) 13 _ refl (λ class.
+    pick-refuses ofHeader (eqb class 0) compact _ (λ size. tt) (
+    pick-refuses ofHeader (eqb class 1) (contiguous s) _ (contiguous-as s) (
+    pick-refuses ofHeader (eqb class 2) (refuse 14) (refuse 13) refl refl)))
 
 type-header-as : As dataTypeHeader
 unfolding dataTypeHeader
-type-header-as = λ cv. check-as ofHeader (knownType cv) 11 _ refl (λ bits size. check-as ofHeader (ltb size 64) 11 _ refl tt)
+type-header-as = λ cv. check-refuses ofHeader (knownType cv) 11 _ refl (λ bits size. check-refuses ofHeader (ltb size 64) 11 _ refl tt)
 
 float-as : As floatFormat
 unfolding floatFormat floatProperties
-float-as = bind-as ofHeader floatProperties _ (λ _ _ _ _ _ _ _. tt) (λ f. check-as ofHeader (ieee f) 11 _ refl tt)
+float-as = bind-refuses ofHeader floatProperties _ (λ _ _ _ _ _ _ _. tt) (λ f. check-refuses ofHeader (ieee f) 11 _ refl tt)
 
 member-fields-as : (version size : ℕ) → As (memberFields version size)
 unfolding memberFields member3 member1
-member-fields-as version size = pick-as ofHeader (eqb version 3) (member3 size) member1 (λ _. pick-as ofHeader (ltb 0 size) _ nothing (λ _. tt) tt)
-    (λ _ _ dimensionality. check-as ofHeader (eqb dimensionality 0) 11 _ refl (λ _ _ _ _ _. tt))
+member-fields-as version size = pick-refuses ofHeader (eqb version 3) (member3 size) member1 (λ _. pick-refuses ofHeader (ltb 0 size) _ nothing (λ _. tt) tt)
+    (λ _ _ dimensionality. check-refuses ofHeader (eqb dimensionality 0) 11 _ refl (λ _ _ _ _ _. tt))
 
 module _ (T : Format DataType) (inner : As T) where
   properties-as : (h : DataTypeHeader) → As (properties h T)
@@ -155,17 +155,17 @@ module _ (T : Format DataType) (inner : As T) where
   properties-as h =
       let class = classOf (h .«class_and_version») in
       let version = versionOf (h .«class_and_version») in
-      pick-as ofHeader (eqb class 0) fixedProperties _ (λ _ _. tt) (
-      pick-as ofHeader (eqb class 1) floatFormat _ float-as (
-      pick-as ofHeader (eqb class 3 || eqb class 7) plain _ tt (
-      pick-as ofHeader (eqb class 6) _ _
-      (times-as ofHeader (h .«class_bit_field» % 65536) (member version (h .size) T) plain
-      (bind-as ofHeader (memberFields version (h .size)) _ (member-fields-as version (h .size)) (λ _. bind-as ofHeader T _ inner (λ _. tt))) tt) (
-      pick-as ofHeader (eqb class 9) (listProperties T) (refuse 11) (bind-as ofHeader T _ inner (λ _. tt)) refl))))
+      pick-refuses ofHeader (eqb class 0) fixedProperties _ (λ _ _. tt) (
+      pick-refuses ofHeader (eqb class 1) floatFormat _ float-as (
+      pick-refuses ofHeader (eqb class 3 || eqb class 7) plain _ tt (
+      pick-refuses ofHeader (eqb class 6) _ _
+      (times-refuses ofHeader (h .«class_bit_field» % 65536) (member version (h .size) T) plain
+      (bind-refuses ofHeader (memberFields version (h .size)) _ (member-fields-as version (h .size)) (λ _. bind-refuses ofHeader T _ inner (λ _. tt))) tt) (
+      pick-refuses ofHeader (eqb class 9) (listProperties T) (refuse 11) (bind-refuses ofHeader T _ inner (λ _. tt)) refl))))
 
   layer-as : As (typeLayer T)
   unfolding typeLayer
-  layer-as = bind-as ofHeader dataTypeHeader _ type-header-as (λ h. bind-as ofHeader (properties h T) _ (properties-as h) (λ _. tt))
+  layer-as = bind-refuses ofHeader dataTypeHeader _ type-header-as (λ h. bind-refuses ofHeader (properties h T) _ (properties-as h) (λ _. tt))
 
 type-as : (levels : ℕ) → As (dataType levels)
 unfolding dataType
@@ -174,54 +174,54 @@ type-as (suc levels) = layer-as (dataType levels) (type-as levels)
 
 dimension-as : (w : ℕ) (maximum : Bool) → As (dimension w maximum)
 unfolding dimension
-dimension-as w maximum = λ size. check-as ofHeader (leb size 1000000 || (maximum && eqb size (allOnes w))) 9 _ refl tt
+dimension-as w maximum = λ size. check-refuses ofHeader (leb size 1000000 || (maximum && eqb size (allOnes w))) 9 _ refl tt
 
 dimensions-from-as : (n w : ℕ) (maximum : Bool) (i : ℕ) (sizes : List ℕ) → As (dimensionsFrom n w maximum i sizes)
 unfolding dimensionsFrom
 dimensions-from-as zero w maximum i sizes = tt
-dimensions-from-as (suc n) w maximum i sizes = bind-as ofHeader (dimension w maximum) _ (dimension-as w maximum) (λ size. dimensions-from-as n w maximum (i + 1) (set sizes i size))
+dimensions-from-as (suc n) w maximum i sizes = bind-refuses ofHeader (dimension w maximum) _ (dimension-as w maximum) (λ size. dimensions-from-as n w maximum (i + 1) (set sizes i size))
 
 dimensions-as : (n w : ℕ) (maximum : Bool) → As (dimensions n w maximum)
 unfolding dimensions
-dimensions-as n w maximum = bind-as ofHeader (dimensionsFrom n w maximum 0 (replicate 4 0)) _ (dimensions-from-as n w maximum 0 (replicate 4 0)) (λ _. tt)
+dimensions-as n w maximum = bind-refuses ofHeader (dimensionsFrom n w maximum 0 (replicate 4 0)) _ (dimensions-from-as n w maximum 0 (replicate 4 0)) (λ _. tt)
 
 maximum-sizes-as : (n w : ℕ) (present : Bool) → As (maximumSizes n w present)
 unfolding maximumSizes
-maximum-sizes-as n w present = pick-as ofHeader present (dimensions n w true) _ (dimensions-as n w true) tt
+maximum-sizes-as n w present = pick-refuses ofHeader present (dimensions n w true) _ (dimensions-as n w true) tt
 
 space-1-as : (w : ℕ) → As (dataSpace1 w)
 unfolding dataSpace1
-space-1-as w = λ n. check-as ofHeader (leb n 4) 9 _ refl (λ flags.
-    check-as ofHeader (not (bit flags 1)) 9 _ refl (
-    bind-as ofHeader (dimensions n w false) _ (dimensions-as n w false) (λ _.
-    bind-as ofHeader (maximumSizes n w (bit flags 0)) _ (maximum-sizes-as n w (bit flags 0)) (λ _. tt))))
+space-1-as w = λ n. check-refuses ofHeader (leb n 4) 9 _ refl (λ flags.
+    check-refuses ofHeader (not (bit flags 1)) 9 _ refl (
+    bind-refuses ofHeader (dimensions n w false) _ (dimensions-as n w false) (λ _.
+    bind-refuses ofHeader (maximumSizes n w (bit flags 0)) _ (maximum-sizes-as n w (bit flags 0)) (λ _. tt))))
 
 space-2-as : (w : ℕ) → As (dataSpace2 w)
 unfolding dataSpace2
-space-2-as w = λ n. check-as ofHeader (leb n 4) 9 _ refl (λ flags type.
-    bind-as ofHeader (dimensions n w false) _ (dimensions-as n w false) (λ _.
-    bind-as ofHeader (maximumSizes n w (bit flags 0)) _ (maximum-sizes-as n w (bit flags 0)) (λ _. tt)))
+space-2-as w = λ n. check-refuses ofHeader (leb n 4) 9 _ refl (λ flags type.
+    bind-refuses ofHeader (dimensions n w false) _ (dimensions-as n w false) (λ _.
+    bind-refuses ofHeader (maximumSizes n w (bit flags 0)) _ (maximum-sizes-as n w (bit flags 0)) (λ _. tt)))
 
 space-as : (s : State) → As (dataSpace s)
 unfolding dataSpace
-space-as s = λ version. pick-as ofHeader (eqb version 1) (dataSpace1 (s .«size_of_lengths»)) _ (space-1-as (s .«size_of_lengths»)) (
-    pick-as ofHeader (eqb version 2) (dataSpace2 (s .«size_of_lengths»)) (refuse 9) (space-2-as (s .«size_of_lengths»)) refl)
+space-as s = λ version. pick-refuses ofHeader (eqb version 1) (dataSpace1 (s .«size_of_lengths»)) _ (space-1-as (s .«size_of_lengths»)) (
+    pick-refuses ofHeader (eqb version 2) (dataSpace2 (s .«size_of_lengths»)) (refuse 9) (space-2-as (s .«size_of_lengths»)) refl)
 
 attribute-fields-as : As attributeFields
 unfolding attributeFields encoding
-attribute-fields-as = λ version. check-as ofHeader (eqb version 1 || eqb version 3) 17 _ refl (λ flags size.
-    check-as ofHeader (leb size 4096) 17 _ refl (λ _ _.
-    bind-as ofHeader (encoding version) _ (pick-as ofHeader (eqb version 3) _ nothing (λ _. tt) tt) (λ _. tt)))
+attribute-fields-as = λ version. check-refuses ofHeader (eqb version 1 || eqb version 3) 17 _ refl (λ flags size.
+    check-refuses ofHeader (leb size 4096) 17 _ refl (λ _ _.
+    bind-refuses ofHeader (encoding version) _ (pick-refuses ofHeader (eqb version 3) _ nothing (λ _. tt) tt) (λ _. tt)))
 
 attribute-as : (s : State) → As (attribute s)
 unfolding attribute nameAndValue
-attribute-as s = bind-as ofHeader attributeFields _ attribute-fields-as (λ f _ _. (λ _. tt, tt))
+attribute-as s = bind-refuses ofHeader attributeFields _ attribute-fields-as (λ f _ _. (λ _. tt, tt))
 
 continuation-as : (s : State) → As (continuation s)
 unfolding continuation definedAddress
-continuation-as s = bind-as ofHeader (definedAddress (s .«size_of_offsets») 19) _ (bind-as ofHeader (address (s .«size_of_offsets»)) (defined 19) (address-as (s .«size_of_offsets»)) defined-as) (λ offset.
-    check-as ofHeader (addressValid s offset) 19 _ refl (λ length.
-    check-as ofHeader (leb 8 length && leb (offset + length) (s .«end_of_file_address»)) 19 _ refl tt))
+continuation-as s = bind-refuses ofHeader (definedAddress (s .«size_of_offsets») 19) _ (bind-refuses ofHeader (address (s .«size_of_offsets»)) (defined 19) (address-as (s .«size_of_offsets»)) defined-as) (λ offset.
+    check-refuses ofHeader (addressValid s offset) 19 _ refl (λ length.
+    check-refuses ofHeader (leb 8 length && leb (offset + length) (s .«end_of_file_address»)) 19 _ refl tt))
   where
     defined-as : (a : Address) → As (defined 19 a)
     defined-as addresses.Undefined = refl
@@ -231,37 +231,37 @@ continuation-as s = bind-as ofHeader (definedAddress (s .«size_of_offsets») 19
 plain-body-as : (s : State) (type : ℕ) → As (plainBody s type)
 unfolding plainBody
 plain-body-as s type =
-    pick-as ofHeader (eqb type 1) _ _ (bind-as ofHeader (dataSpace s) _ (space-as s) (λ _. tt)) (
-    pick-as ofHeader (eqb type 2) _ _ (bind-as ofHeader (linkInfo s) _ (link-info-as s) (λ _. tt)) (
-    pick-as ofHeader (eqb type 3) _ _ (bind-as ofHeader (dataType typeLevels) _ (type-as typeLevels) (λ _. tt)) (
-    pick-as ofHeader (eqb type 4) _ _ (bind-as ofHeader fillValue _ fill-value-as (λ _. tt)) (
-    pick-as ofHeader (eqb type 5) _ _ (bind-as ofHeader fill _ fill-as (λ _. tt)) (
-    pick-as ofHeader (eqb type 10) _ _ (bind-as ofHeader groupInfo _ group-info-as (λ _. tt)) (
-    pick-as ofHeader (eqb type 11) _ _ (bind-as ofHeader filterPipeline _ filters-as (λ _. tt)) (
-    pick-as ofHeader (eqb type 21) _ _ (bind-as ofHeader (attributeInfo s) _ (attribute-info-as s) (λ _. tt)) tt)))))))
+    pick-refuses ofHeader (eqb type 1) _ _ (bind-refuses ofHeader (dataSpace s) _ (space-as s) (λ _. tt)) (
+    pick-refuses ofHeader (eqb type 2) _ _ (bind-refuses ofHeader (linkInfo s) _ (link-info-as s) (λ _. tt)) (
+    pick-refuses ofHeader (eqb type 3) _ _ (bind-refuses ofHeader (dataType typeLevels) _ (type-as typeLevels) (λ _. tt)) (
+    pick-refuses ofHeader (eqb type 4) _ _ (bind-refuses ofHeader fillValue _ fill-value-as (λ _. tt)) (
+    pick-refuses ofHeader (eqb type 5) _ _ (bind-refuses ofHeader fill _ fill-as (λ _. tt)) (
+    pick-refuses ofHeader (eqb type 10) _ _ (bind-refuses ofHeader groupInfo _ group-info-as (λ _. tt)) (
+    pick-refuses ofHeader (eqb type 11) _ _ (bind-refuses ofHeader filterPipeline _ filters-as (λ _. tt)) (
+    pick-refuses ofHeader (eqb type 21) _ _ (bind-refuses ofHeader (attributeInfo s) _ (attribute-info-as s) (λ _. tt)) tt)))))))
 
 body-as : (s : State) (type : ℕ) → As (body s type)
 unfolding body layoutBody attributeBody
 body-as s type =
-    pick-as ofHeader (eqb type 8) _ _ (bind-as ofHeader (dataLayout s) _ (layout-as s) (λ _. tt)) (
-    pick-as ofHeader (eqb type 12) _ _ (bind-as ofHeader (attribute s) _ (attribute-as s) (λ _. tt)) (
+    pick-refuses ofHeader (eqb type 8) _ _ (bind-refuses ofHeader (dataLayout s) _ (layout-as s) (λ _. tt)) (
+    pick-refuses ofHeader (eqb type 12) _ _ (bind-refuses ofHeader (attribute s) _ (attribute-as s) (λ _. tt)) (
     plain-body-as s type))
 
 closed-as : (F : State → Prefix → ℕ → Format Held) (s : State) (x : Prefix) (b : ℕ) → As (F s x b) → As (closed F s x b)
 unfolding closed
-closed-as F s x b h = bind-as ofHeader (F s x b) _ h (λ _ _. tt)
+closed-as F s x b h = bind-refuses ofHeader (F s x b) _ h (λ _ _. tt)
 
 prefix-as : (flags : ℕ) → As (prefix flags)
 unfolding prefix creationOrder
-prefix-as header-flags = λ _ _ flags. check-as ofHeader (eqb (bitAnd flags 0b11111010) 0) 8 _ refl (
-    bind-as ofHeader (creationOrder header-flags) _ (pick-as ofHeader (bit header-flags 2) _ nothing (λ _. tt) tt) (λ _. tt))
+prefix-as header-flags = λ _ _ flags. check-refuses ofHeader (eqb (bitAnd flags 0b11111010) 0) 8 _ refl (
+    bind-refuses ofHeader (creationOrder header-flags) _ (pick-refuses ofHeader (bit header-flags 2) _ nothing (λ _. tt) tt) (λ _. tt))
 
 entry-as : (s : State) (flags : ℕ) → As (entry s flags)
 unfolding entry messageHeld continuationHeld
-entry-as s flags = bind-as ofHeader (prefix flags) _ (prefix-as flags) (λ x b.
-    pick-as ofHeader (eqb (x .kind) 16) _ _
-    (closed-as continuationHeld s x b (bind-as ofHeader (continuation s) _ (continuation-as s) (λ _. tt)))
-    (closed-as messageHeld s x b (bind-as ofHeader (body s (x .kind)) _ (body-as s (x .kind)) (λ _. tt))))
+entry-as s flags = bind-refuses ofHeader (prefix flags) _ (prefix-as flags) (λ x b.
+    pick-refuses ofHeader (eqb (x .kind) 16) _ _
+    (closed-as continuationHeld s x b (bind-refuses ofHeader (continuation s) _ (continuation-as s) (λ _. tt)))
+    (closed-as messageHeld s x b (bind-refuses ofHeader (body s (x .kind)) _ (body-as s (x .kind)) (λ _. tt))))
 
 -- the same of what a walk gives
 abbrev pub StopsWith : {A : Type 0} → Went A → Type 0
@@ -283,7 +283,7 @@ choose-as false a b h g = g
 -- a walk without a table
 module _ (src : Source) (one : As (src .entry)) where
   reads : {A : Type 0} (n : ℕ) (F : Format A) (p : ℕ) → As F → StopsWith (begun n (read (src .file) F p))
-  reads n F p h = begun-as n (read (src .file) F p) (read-as ofHeader refl (src .file) F p h)
+  reads n F p h = begun-as n (read (src .file) F p) (read-refused ofHeader refl (src .file) F p h)
 
   hold-as : (block : Count → ℕ → ℕ → Went (List Item)) → ((s : Count) (o n : ℕ) → StopsWith (block s o n)) → (s : Count) (p : ℕ) (x : Held) (q : ℕ) → StopsWith (hold src withoutTable block s p x q)
   unfolding hold
@@ -309,10 +309,10 @@ module _ (src : Source) (one : As (src .entry)) where
   block-by-as : (by : ℕ → Count → Went (List Item)) → ((p : ℕ) (s : Count) → StopsWith (by p s)) → (s : Count) (o n : ℕ) → StopsWith (blockBy src withoutTable by s o n)
   unfolding blockBy ochk blockEnd
   block-by-as by h s o n =
-      then-as (begun (s .entries) (read (src .file) ochk o)) _ (reads (s .entries) ochk o (λ v. check-as ofHeader (eqb v 0x4B48434F) 20 nothing refl tt)) (λ _ first.
+      then-as (begun (s .entries) (read (src .file) ochk o)) _ (reads (s .entries) ochk o (λ v. check-refuses ofHeader (eqb v 0x4B48434F) 20 nothing refl tt)) (λ _ first.
       then-as (runBy src withoutTable by 4097 (o + n - 4) first s) _ (run-by-as by h 4097 (o + n - 4) first s) (λ xs q.
       then-as (begun (counted s xs .entries) (read (src .file) (blockEnd (src .sum) o (o + n) q) q)) (λ _ m. reached xs m)
-      (reads (counted s xs .entries) (blockEnd (src .sum) o (o + n) q) q (check-as ofHeader (src .sum o (o + n - 4)) 28 nothing refl tt)) (λ _ _. tt)))
+      (reads (counted s xs .entries) (blockEnd (src .sum) o (o + n) q) q (check-refuses ofHeader (src .sum o (o + n - 4)) 28 nothing refl tt)) (λ _ _. tt)))
 
   entry-at-as : (levels p : ℕ) (s : Count) → StopsWith (entryAt src withoutTable levels p s)
   unfolding entryAt
@@ -324,16 +324,16 @@ module _ (src : Source) (one : As (src .entry)) where
   walk-as o e p =
       then-as (runAt src withoutTable blockLevels e p start) _ (run-by-as (entryAt src withoutTable blockLevels) (entry-at-as blockLevels) 4097 e p start) (λ xs q.
       then-as (begun (length xs) (read (src .file) (headerEnd (src .sum) o e q) q)) (λ _ m. reached xs m)
-      (reads (length xs) (headerEnd (src .sum) o e q) q (check-as ofHeader (src .sum o e) 28 nothing refl tt)) (λ _ _. tt))
+      (reads (length xs) (headerEnd (src .sum) o e q) q (check-refuses ofHeader (src .sum o e) 28 nothing refl tt)) (λ _ _. tt))
 
 fields-as : As headerFields
 unfolding headerFields ohdr
-fields-as = bind-as ofHeader ohdr _ (λ v. check-as ofHeader (eqb v 0x5244484F) 4 nothing refl tt) (λ _ version.
-    check-as ofHeader (eqb version 2) 5 _ refl (λ flags.
-    check-as ofHeader (not (bit flags 4)) 6 _ refl (λ size.
-    check-as ofHeader (leb size 16777216) 7 _ refl tt)))
+fields-as = bind-refuses ofHeader ohdr _ (λ v. check-refuses ofHeader (eqb v 0x5244484F) 4 nothing refl tt) (λ _ version.
+    check-refuses ofHeader (eqb version 2) 5 _ refl (λ flags.
+    check-refuses ofHeader (not (bit flags 4)) 6 _ refl (λ size.
+    check-refuses ofHeader (leb size 16777216) 7 _ refl tt)))
 
 pub header-as : (file : List ℕ) (s : State) (at : ℕ) → StopsWith (header file s withoutTable at)
 unfolding header
-header-as file s at = then-as (begun 0 (read file headerFields at)) _ (begun-as 0 (read file headerFields at) (read-as ofHeader refl file headerFields at fields-as)) (λ f start.
+header-as file s at = then-as (begun 0 (read file headerFields at)) _ (begun-as 0 (read file headerFields at) (read-refused ofHeader refl file headerFields at fields-as)) (λ f start.
     walk-as (source file s (f .flags)) (entry-as s (f .flags)) at (start + f .size) start)

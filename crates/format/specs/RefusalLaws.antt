@@ -40,42 +40,42 @@ module _ (allowed : ℕ → Bool) where
     otherwise p k G (found b m) h g = h b m
     otherwise p k G (refused n) h g = g
 
-    pub read-as : {A : Type 0} (F : Format A) (p : ℕ) → RefusesWith F → RefusedWith (read s F p)
+    pub read-refused : {A : Type 0} (F : Format A) (p : ℕ) → RefusesWith F → RefusedWith (read s F p)
     unfolding read
-    read-as (done x) p h = tt
-    read-as (refuse n) p h = h
-    read-as (number w k) p h = tested (leb (p + w) (length s)) _ (read-as (k (le s p w)) (p + w) (h (le s p w)))
-    read-as (skip n F) p h = tested (leb (p + n) (length s)) _ (read-as F (p + n) h)
-    read-as (bytes n F) p h = tested (leb (p + n) (length s)) _ (read-as F (p + n) h)
-    read-as (name limit k) p h =
+    read-refused (done x) p h = tt
+    read-refused (refuse n) p h = h
+    read-refused (number w k) p h = tested (leb (p + w) (length s)) _ (read-refused (k (le s p w)) (p + w) (h (le s p w)))
+    read-refused (skip n F) p h = tested (leb (p + n) (length s)) _ (read-refused F (p + n) h)
+    read-refused (bytes n F) p h = tested (leb (p + n) (length s)) _ (read-refused F (p + n) h)
+    read-refused (name limit k) p h =
         let n = nameLength s p limit in
-        tested (nameEnds s p limit n) _ (read-as (k n) (p + n) (h n))
-    read-as (text n k) p h = tested (leb (p + n) (length s)) _ (read-as (k (textLength s p n)) (p + n) (h (textLength s p n)))
-    read-as (here k) p h = read-as (k p) p (h p)
-    read-as (there o F k) p h = back p k (read s F o) (read-as F o (h .0)) (λ b. read-as (k b) p (h .1 b))
-    read-as (attempt F k G) p h = otherwise p k G (read s F p) (λ b m. read-as (k b) m (h .0 b)) (read-as G p (h .1))
+        tested (nameEnds s p limit n) _ (read-refused (k n) (p + n) (h n))
+    read-refused (text n k) p h = tested (leb (p + n) (length s)) _ (read-refused (k (textLength s p n)) (p + n) (h (textLength s p n)))
+    read-refused (here k) p h = read-refused (k p) p (h p)
+    read-refused (there o F k) p h = back p k (read s F o) (read-refused F o (h .0)) (λ b. read-refused (k b) p (h .1 b))
+    read-refused (attempt F k G) p h = otherwise p k G (read s F p) (λ b m. read-refused (k b) m (h .0 b)) (read-refused G p (h .1))
 
-  pub bind-as : {A B : Type 0} (F : Format A) (k : A → Format B) → RefusesWith F → ((a : A) → RefusesWith (k a)) → RefusesWith (bind F k)
+  pub bind-refuses : {A B : Type 0} (F : Format A) (k : A → Format B) → RefusesWith F → ((a : A) → RefusesWith (k a)) → RefusesWith (bind F k)
   unfolding bind
-  bind-as (done x) k h g = g x
-  bind-as (refuse n) k h g = h
-  bind-as (number w f) k h g = λ v. bind-as (f v) k (h v) g
-  bind-as (skip n F) k h g = bind-as F k h g
-  bind-as (bytes n F) k h g = bind-as F k h g
-  bind-as (name limit f) k h g = λ n. bind-as (f n) k (h n) g
-  bind-as (text n f) k h g = λ l. bind-as (f l) k (h l) g
-  bind-as (here f) k h g = λ p. bind-as (f p) k (h p) g
-  bind-as (there o F f) k h g = (h .0, λ b. bind-as (f b) k (h .1 b) g)
-  bind-as (attempt F f G) k h g = (λ b. bind-as (f b) k (h .0 b) g, bind-as G k (h .1) g)
+  bind-refuses (done x) k h g = g x
+  bind-refuses (refuse n) k h g = h
+  bind-refuses (number w f) k h g = λ v. bind-refuses (f v) k (h v) g
+  bind-refuses (skip n F) k h g = bind-refuses F k h g
+  bind-refuses (bytes n F) k h g = bind-refuses F k h g
+  bind-refuses (name limit f) k h g = λ n. bind-refuses (f n) k (h n) g
+  bind-refuses (text n f) k h g = λ l. bind-refuses (f l) k (h l) g
+  bind-refuses (here f) k h g = λ p. bind-refuses (f p) k (h p) g
+  bind-refuses (there o F f) k h g = (h .0, λ b. bind-refuses (f b) k (h .1 b) g)
+  bind-refuses (attempt F f G) k h g = (λ b. bind-refuses (f b) k (h .0 b) g, bind-refuses G k (h .1) g)
 
-  pub times-as : {A B : Type 0} (n : ℕ) (F : Format A) (G : Format B) → RefusesWith F → RefusesWith G → RefusesWith (times n F G)
+  pub times-refuses : {A B : Type 0} (n : ℕ) (F : Format A) (G : Format B) → RefusesWith F → RefusesWith G → RefusesWith (times n F G)
   unfolding times
-  times-as zero F G h g = g
-  times-as (suc n) F G h g = bind-as F (λ _. times n F G) h (λ _. times-as n F G h g)
+  times-refuses zero F G h g = g
+  times-refuses (suc n) F G h g = bind-refuses F (λ _. times n F G) h (λ _. times-refuses n F G h g)
 
-  pub pick-as : {A : Type 0} (t : Bool) (F G : Format A) → RefusesWith F → RefusesWith G → RefusesWith (pick t F G)
-  pick-as true F G h g = h
-  pick-as false F G h g = g
+  pub pick-refuses : {A : Type 0} (t : Bool) (F G : Format A) → RefusesWith F → RefusesWith G → RefusesWith (pick t F G)
+  pick-refuses true F G h g = h
+  pick-refuses false F G h g = g
 
-  pub check-as : {A : Type 0} (t : Bool) (n : ℕ) (F : Format A) → allowed n ≡ true → RefusesWith F → RefusesWith (check t n F)
-  check-as t n F e h = pick-as t F (refuse n) h e
+  pub check-refuses : {A : Type 0} (t : Bool) (n : ℕ) (F : Format A) → allowed n ≡ true → RefusesWith F → RefusesWith (check t n F)
+  check-refuses t n F e h = pick-refuses t F (refuse n) h e

@@ -9,8 +9,7 @@ use Rattle.format.specs.Format.{Format, Stands}
 use Rattle.grammar.specs.Message.{Message, message, continuation}
 use Rattle.grammar.specs.Grammar.{Source, Item, item, ochk, blockLevels, blockEnd, headerEnd, One, Run, Entry}
 use Rattle.grammar.specs.Table.{messages}
-use Rattle.grammar.specs.Walk.{Count, Limits}
-use Rattle.grammar.specs.WalkLaws.{Fit}
+use Rattle.grammar.specs.Walk.{Count, Limits, Fit}
 
 -- Why a reading goes no further. At an entry: its own field or its closing does not stand, its message finds no row, its block is one level too many,
 -- or it is itself one too many. Elsewhere: a header's fields, `OCHK`, or what closes a block or a header does not stand.

@@ -12,8 +12,8 @@ use Rattle.format.specs.Laws as formats
 use Rattle.grammar.specs.Message.{Message, Held, message, continuation}
 use Rattle.grammar.specs.Grammar.{Source, Item, item, ochk, blockEnd, headerEnd, One, Run, Entry}
 use Rattle.grammar.specs.Table.{messages}
-use Rattle.grammar.specs.Walk.{Went, stopped, Count, counted, opened, Limits, start, hold, entryBy, runBy, blockBy, entryAt, runAt, walk}
-use Rattle.grammar.specs.WalkLaws.{choose-yes, choose-no, then-reached, then-stopped, found-then, refused-then, Fit, fit-first, fit-second}
+use Rattle.grammar.specs.Walk.{Went, stopped, Count, counted, opened, Limits, start, hold, entryBy, runBy, blockBy, entryAt, runAt, walk, Fit}
+use Rattle.grammar.specs.WalkLaws.{choose-yes, choose-no, then-reached, then-stopped, found-then, refused-then, fit-first, fit-second}
 use Rattle.grammar.specs.Steps.{run-goes, run-stops, entry-own}
 use Rattle.grammar.specs.Complete.{entry-some, run-complete, entry-complete}
 use Rattle.grammar.specs.Advance.{deeper, entry-levels}

@@ -14,8 +14,8 @@ use Rattle.grammar.specs.Message.{Held, message, continuation}
 use Rattle.grammar.specs.Grammar.{Source, Item, item, ochk, blockEnd, headerEnd, One, Entry}
 use Rattle.grammar.specs.Table.{messages}
 use Rattle.grammar.specs.TableLaws.{messages-append}
-use Rattle.grammar.specs.Walk.{Went, reached, stopped, andThen, begun, Count, counted, opened, Limits, start, hold, entryBy, runBy, blockBy, entryAt, runAt, walk}
-use Rattle.grammar.specs.WalkLaws.{chose, never, was-found, Fit, fit-none, fit-append}
+use Rattle.grammar.specs.Walk.{Went, reached, stopped, andThen, begun, Count, counted, opened, Limits, start, hold, entryBy, runBy, blockBy, entryAt, runAt, walk, Fit}
+use Rattle.grammar.specs.WalkLaws.{chose, never, was-found, fit-none, fit-append}
 use Rattle.grammar.specs.Sound.{EntrySound, entry-sound, run-sound}
 use Rattle.grammar.specs.Complete.{entry-some}
 use Rattle.grammar.specs.Begun.{Cause, own, no-row, no-level, no-entry, elsewhere, more, Numbered, RunStops, after, at, EntryStops, too-many, fails, rowless, too-deep, opens, BlockStops, unsigned, within, unclosed, ReadingStops, in-run, not-closed, Stopped}

@@ -8,8 +8,8 @@ use Rattle.format.specs.Format.{Stands, found, read}
 use Rattle.format.specs.Laws as formats
 use Rattle.grammar.specs.Message.{Message, Held, message, continuation}
 use Rattle.grammar.specs.Grammar.{Source, Item, item, ochk, blockEnd, One, Run, ends, goes, Entry, is-message, is-continuation, Block, is-block}
-use Rattle.grammar.specs.Walk.{Went, reached, Count, counted, opened, Limits, runBy, blockBy, entryAt}
-use Rattle.grammar.specs.WalkLaws.{then-reached, Fit, fit-first, fit-second}
+use Rattle.grammar.specs.Walk.{Went, reached, Count, counted, opened, Limits, runBy, blockBy, entryAt, Fit}
+use Rattle.grammar.specs.WalkLaws.{then-reached, fit-first, fit-second}
 use Rattle.grammar.specs.Steps.{run-ends, run-goes, entry-kept, entry-opened, block-closed}
 
 module _ (src : Source) (l : Limits) where

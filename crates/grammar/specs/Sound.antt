@@ -11,8 +11,8 @@ use Rattle.format.specs.Format.{read}
 use Rattle.format.specs.Laws as formats
 use Rattle.grammar.specs.Message.{Held, message, continuation}
 use Rattle.grammar.specs.Grammar.{Source, Item, item, ochk, blockEnd, One, Run, ends, goes, Entry, is-message, is-continuation, Block, is-block}
-use Rattle.grammar.specs.Walk.{Went, reached, stopped, begun, Count, counted, opened, Limits, hold, entryBy, runBy, blockBy, entryAt, runAt}
-use Rattle.grammar.specs.WalkLaws.{chose, never, passed, first, was-found, Fit, fit-none, fit-append}
+use Rattle.grammar.specs.Walk.{Went, reached, stopped, begun, Count, counted, opened, Limits, hold, entryBy, runBy, blockBy, entryAt, runAt, Fit}
+use Rattle.grammar.specs.WalkLaws.{chose, never, passed, first, was-found, fit-none, fit-append}
 
 module _ (src : Source) (l : Limits) where
   -- what stands, of a kind P, and fits after s

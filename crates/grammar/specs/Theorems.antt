@@ -9,8 +9,8 @@ use lib.ListN.{length}
 use Rattle.format.specs.Format.{read}
 use Rattle.format.specs.Laws as formats
 use Rattle.grammar.specs.Grammar.{Source, Item, headerEnd, Reading}
-use Rattle.grammar.specs.Walk.{reached, begun, Limits, start, runAt, walk}
-use Rattle.grammar.specs.WalkLaws.{first, was-found, then-reached, found-then, Fit}
+use Rattle.grammar.specs.Walk.{reached, begun, Limits, start, runAt, walk, Fit}
+use Rattle.grammar.specs.WalkLaws.{first, was-found, then-reached, found-then}
 use Rattle.grammar.specs.Sound.{runAt-sound}
 use Rattle.grammar.specs.Complete.{run-complete}
 

@@ -1,6 +1,7 @@
 -- What walking a header's run of entries gives: what stands in it, in the reading's order, or a refusal with its number and the entries begun.
 -- Rows, counts and the table are told from the items. Assumes nothing: these are definitions.
-use Prim.Native.Nat.{ℕ, zero, suc, _+_, _-_}
+use Prim.Native.Nat.{ℕ, zero, suc, _+_, _-_, _≤_, _<_}
+use mathlib.Core.Path.{_≡_}
 use mathlib.Core.Bool.{Bool, true, false}
 use mathlib.Core.List.{List, [], _∷_, _++_}
 use lib.ListN.{length}
@@ -65,6 +66,11 @@ lent rows = within entryLimit 23 rows
 
 abbrev pub withoutTable : Limits
 withoutTable = without entryLimit 23
+
+-- the items xs fit after s: no entry too many, and a row for each message
+pub record Fit (l : Limits) (s : Count) (xs : List Item) : Type 0 where
+  pub few : s .entries + length xs ≤ l .entries
+  pub room : (i : ℕ) → s .rows ≤ i → i < s .rows + messages xs → l .fits i ≡ true
 
 -- no entry begun, no row taken
 abbrev pub start : Count

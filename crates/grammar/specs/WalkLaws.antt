@@ -12,7 +12,7 @@ use Rattle.format.specs.Format.{Out, found, refused}
 use Rattle.grammar.specs.Grammar.{Item}
 use Rattle.grammar.specs.Table.{messages}
 use Rattle.grammar.specs.TableLaws.{messages-append}
-use Rattle.grammar.specs.Walk.{choose, Went, reached, stopped, andThen, begun, Count, counted, Limits, entryLimit, lent, withoutTable, start}
+use Rattle.grammar.specs.Walk.{choose, Went, reached, stopped, andThen, begun, Count, counted, Limits, entryLimit, lent, withoutTable, start, Fit}
 
 pub choose-yes : {A : Type 0} {b : Bool} (f g : Unit {0} → A) → b ≡ true → choose b f g ≡ f tt
 choose-yes f g e = ap (λ x. choose x f g) e
@@ -66,11 +66,6 @@ same-reached {xs = xs} {ys = ys} {p = p} {q = q} f e =
     let a : p ≡ q = cc in
     let b : xs ≡ ys = cc in
     λ i. f (b i) (a i)
-
--- the items xs fit after s: no entry too many, and a row for each message
-pub record Fit (l : Limits) (s : Count) (xs : List Item) : Type 0 where
-  pub few : s .entries + length xs ≤ l .entries
-  pub room : (i : ℕ) → s .rows ≤ i → i < s .rows + messages xs → l .fits i ≡ true
 
 pub fit-none : (l : Limits) (s : Count) → s .entries ≤ l .entries → Fit l s []
 fit-none l s h = record { few = omega arith; room = λ i a b. absurd (omega arith) }

@@ -126,105 +126,104 @@ abbrev state : State
 state = record { «size_of_lengths» = 2; «size_of_offsets» = 2; «end_of_file_address» = 367 }
 
 -- each message by itself
-module _ where
-  abbrev Body : ℕ → ℕ → ℕ → Type 0
-  Body type position size = ReadBody kinds state position (position + size) type
+abbrev Body : ℕ → ℕ → ℕ → Type 0
+Body type position size = ReadBody kinds state position (position + size) type
 
-  unlimited : Body 1 12 8
-  unfolding read bind le many byVersion marked storedSizes dataspace1 dataspace2 dataspaceMessage
-  unlimited =
-      dataspace 20 _ (sound kinds (dataspaceMessage 2) 12 20 _ refl) (omega arith)
-      (record { few = omega arith; sizes = (omega arith, tt); maximum-sizes = (inr refl, tt); no-permutation = refl; no-scalar-with-sizes = λ d. elim d [ scalar-with-sizes e f ↦ omega (arith, e) ] })
+unlimited : Body 1 12 8
+unfolding read bind le many byVersion marked storedSizes dataspace1 dataspace2 dataspaceMessage
+unlimited =
+    dataspace 20 _ (sound kinds (dataspaceMessage 2) 12 20 _ refl) (omega arith)
+    (record { few = omega arith; sizes = (omega arith, tt); maximum-sizes = (inr refl, tt); no-permutation = refl; no-scalar-with-sizes = λ d. elim d [ scalar-with-sizes e f ↦ omega (arith, e) ] })
 
-  two-sizes : Body 1 24 12
-  unfolding read bind le many byVersion marked storedSizes dataspace1 dataspace2 dataspaceMessage
-  two-sizes =
-      dataspace 36 _ (sound kinds (dataspaceMessage 2) 24 36 _ refl) (omega arith)
-      (record { few = omega arith; sizes = (omega arith, (omega arith, tt)); maximum-sizes = tt; no-permutation = refl; no-scalar-with-sizes = elim [ ] })
+two-sizes : Body 1 24 12
+unfolding read bind le many byVersion marked storedSizes dataspace1 dataspace2 dataspaceMessage
+two-sizes =
+    dataspace 36 _ (sound kinds (dataspaceMessage 2) 24 36 _ refl) (omega arith)
+    (record { few = omega arith; sizes = (omega arith, (omega arith, tt)); maximum-sizes = tt; no-permutation = refl; no-scalar-with-sizes = elim [ ] })
 
-  links : Body 2 40 16
-  unfolding read bind le optional address optionalAddress linkInfoMessage
-  links = link-info 56 _ (sound kinds (linkInfoMessage 2) 40 56 _ refl) (omega arith)
+links : Body 2 40 16
+unfolding read bind le optional address optionalAddress linkInfoMessage
+links = link-info 56 _ (sound kinds (linkInfoMessage 2) 40 56 _ refl) (omega arith)
 
-  number : Body 3 60 12
-  unfolding read bind le datatypeHeader fixedPoint properties datatypeOf datatypeMessage
-  number = datatype 4095 72 _ (sound kinds (datatypeMessage 4095 32) 60 72 _ refl) (omega arith) (record { small-size = omega arith; float = tt; members = tt }, tt)
+number : Body 3 60 12
+unfolding read bind le datatypeHeader fixedPoint properties datatypeOf datatypeMessage
+number = datatype 4095 72 _ (sound kinds (datatypeMessage 4095 32) 60 72 _ refl) (omega arith) (record { small-size = omega arith; float = tt; members = tt }, tt)
 
-  old-fill : Body 4 76 6
-  unfolding read bind le raw fillValueOld
-  old-fill = fill-value-old 82 _ (sound kinds fillValueOld 76 82 _ refl) (omega arith)
+old-fill : Body 4 76 6
+unfolding read bind le raw fillValueOld
+old-fill = fill-value-old 82 _ (sound kinds fillValueOld 76 82 _ refl) (omega arith)
 
-  fill-2 : Body 5 86 10
-  unfolding read bind le raw byVersion marked sizeAndFillValue fillFields12 fillValue12 fillValue3 fillValueMessage
-  fill-2 = fill-value 96 _ (sound kinds fillValueMessage 86 96 _ refl) (omega arith) (record { allocation = inl refl; write-time = refl; defined = omega arith; in-version-1 = λ e. omega (arith, e) })
+fill-2 : Body 5 86 10
+unfolding read bind le raw byVersion marked sizeAndFillValue fillFields12 fillValue12 fillValue3 fillValueMessage
+fill-2 = fill-value 96 _ (sound kinds fillValueMessage 86 96 _ refl) (omega arith) (record { allocation = inl refl; write-time = refl; defined = omega arith; in-version-1 = λ e. omega (arith, e) })
 
-  fill-3 : Body 5 100 7
-  unfolding read bind le raw byVersion marked sizeAndFillValue fillFields12 fillValue12 fillValue3 fillValueMessage
-  fill-3 = fill-value 107 _ (sound kinds fillValueMessage 100 107 _ refl) (omega arith) tt
+fill-3 : Body 5 100 7
+unfolding read bind le raw byVersion marked sizeAndFillValue fillFields12 fillValue12 fillValue3 fillValueMessage
+fill-3 = fill-value 107 _ (sound kinds fillValueMessage 100 107 _ refl) (omega arith) tt
 
-  bytes : Body 8 111 6
-  unfolding read bind le raw address marked compactStorage contiguousStorage layoutProperties dataLayout3
-  bytes = data-layout 117 _ (sound kinds (dataLayout3 2 2) 111 117 _ refl) (omega arith) (record { small = omega arith; inside = λ a e l u. let i : 5 ≡ a = cc in omega arith })
+bytes : Body 8 111 6
+unfolding read bind le raw address marked compactStorage contiguousStorage layoutProperties dataLayout3
+bytes = data-layout 117 _ (sound kinds (dataLayout3 2 2) 111 117 _ refl) (omega arith) (record { small = omega arith; inside = λ a e l u. let i : 5 ≡ a = cc in omega arith })
 
-  compact-bytes : Body 8 121 6
-  unfolding read bind le raw address marked compactStorage contiguousStorage layoutProperties dataLayout3
-  compact-bytes = data-layout 127 _ (sound kinds (dataLayout3 2 2) 121 127 _ refl) (omega arith) tt
+compact-bytes : Body 8 121 6
+unfolding read bind le raw address marked compactStorage contiguousStorage layoutProperties dataLayout3
+compact-bytes = data-layout 127 _ (sound kinds (dataLayout3 2 2) 121 127 _ refl) (omega arith) tt
 
-  group : Body 10 131 10
-  unfolding read bind le optional groupInfoMessage
-  group = group-info 141 _ (sound kinds groupInfoMessage 131 141 _ refl) (omega arith)
+group : Body 10 131 10
+unfolding read bind le optional groupInfoMessage
+group = group-info 141 _ (sound kinds groupInfoMessage 131 141 _ refl) (omega arith)
 
-  filters-1 : Body 11 145 32
-  unfolding read bind times le raw optional many byVersion marked filterFields1 filterDescription1 pipelineFields1 filterPipeline1 filterFields2 filterDescription2 pipelineFields2 filterPipeline2 filterPipelineMessage
-  filters-1 =
-      filter-pipeline 177 _ (sound kinds filterPipelineMessage 145 177 _ refl) (omega arith)
-      (record { few = omega arith; reserved = refl; reserved-2 = refl; filters = (record { name-padded = refl; name-short = omega arith; values = omega arith }, tt) })
+filters-1 : Body 11 145 32
+unfolding read bind times le raw optional many byVersion marked filterFields1 filterDescription1 pipelineFields1 filterPipeline1 filterFields2 filterDescription2 pipelineFields2 filterPipeline2 filterPipelineMessage
+filters-1 =
+    filter-pipeline 177 _ (sound kinds filterPipelineMessage 145 177 _ refl) (omega arith)
+    (record { few = omega arith; reserved = refl; reserved-2 = refl; filters = (record { name-padded = refl; name-short = omega arith; values = omega arith }, tt) })
 
-  filters-2 : Body 11 181 16
-  unfolding read bind times le raw optional many byVersion marked filterFields1 filterDescription1 pipelineFields1 filterPipeline1 filterFields2 filterDescription2 pipelineFields2 filterPipeline2 filterPipelineMessage
-  filters-2 = filter-pipeline 197 _ (sound kinds filterPipelineMessage 181 197 _ refl) (omega arith) (record { few = omega arith; filters = (record { no-name = omega arith; values = omega arith }, tt) })
+filters-2 : Body 11 181 16
+unfolding read bind times le raw optional many byVersion marked filterFields1 filterDescription1 pipelineFields1 filterPipeline1 filterFields2 filterDescription2 pipelineFields2 filterPipeline2 filterPipelineMessage
+filters-2 = filter-pipeline 197 _ (sound kinds filterPipelineMessage 181 197 _ refl) (omega arith) (record { few = omega arith; filters = (record { no-name = omega arith; values = omega arith }, tt) })
 
-  text : Body 12 201 31
-  unfolding read bind le many raw byVersion marked datatypeHeader properties datatypeOf datatypeMessage storedSizes dataspace1 dataspace2 dataspaceMessage sizes1 sizes3 sized described product attribute1 attribute3 attributeMessage
-  text =
-      attribute 4095 232 _ (sound kinds (attributeMessage 4095 32 2) 201 232 _ refl) (omega arith) (record {
-        name-size = omega arith;
-        described = record {
-          datatype = (record { small-size = omega arith; float = tt; members = tt }, tt);
-          dataspace = record { few = omega arith; sizes = tt; maximum-sizes = tt; no-permutation = refl; no-scalar-with-sizes = λ d. elim d [ scalar-with-sizes e f ↦ f refl ] };
-          variable-length = λ e. absurd (omega (arith, e));
-          short = λ _. omega arith;
-        };
-      })
+text : Body 12 201 31
+unfolding read bind le many raw byVersion marked datatypeHeader properties datatypeOf datatypeMessage storedSizes dataspace1 dataspace2 dataspaceMessage sizes1 sizes3 sized described product attribute1 attribute3 attributeMessage
+text =
+    attribute 4095 232 _ (sound kinds (attributeMessage 4095 32 2) 201 232 _ refl) (omega arith) (record {
+      name-size = omega arith;
+      described = record {
+        datatype = (record { small-size = omega arith; float = tt; members = tt }, tt);
+        dataspace = record { few = omega arith; sizes = tt; maximum-sizes = tt; no-permutation = refl; no-scalar-with-sizes = λ d. elim d [ scalar-with-sizes e f ↦ f refl ] };
+        variable-length = λ e. absurd (omega (arith, e));
+        short = λ _. omega arith;
+      };
+    })
 
-  rate : Body 12 236 42
-  unfolding read bind le many raw byVersion marked datatypeHeader fixedPoint properties datatypeOf datatypeMessage storedSizes dataspace1 dataspace2 dataspaceMessage sizes1 sizes3 sized described product attribute1 attribute3 attributeMessage
-  rate =
-      attribute 4095 278 _ (sound kinds (attributeMessage 4095 32 2) 236 278 _ refl) (omega arith) (record {
-        name-size = omega arith;
-        described = record {
-          datatype = (record { small-size = omega arith; float = tt; members = tt }, tt);
-          dataspace = record { few = omega arith; sizes = tt; maximum-sizes = tt; no-permutation = refl; no-scalar-with-sizes = elim [ ] };
-          variable-length = λ e. absurd (omega (arith, e));
-          short = λ _. omega arith;
-        };
-      })
+rate : Body 12 236 42
+unfolding read bind le many raw byVersion marked datatypeHeader fixedPoint properties datatypeOf datatypeMessage storedSizes dataspace1 dataspace2 dataspaceMessage sizes1 sizes3 sized described product attribute1 attribute3 attributeMessage
+rate =
+    attribute 4095 278 _ (sound kinds (attributeMessage 4095 32 2) 236 278 _ refl) (omega arith) (record {
+      name-size = omega arith;
+      described = record {
+        datatype = (record { small-size = omega arith; float = tt; members = tt }, tt);
+        dataspace = record { few = omega arith; sizes = tt; maximum-sizes = tt; no-permutation = refl; no-scalar-with-sizes = elim [ ] };
+        variable-length = λ e. absurd (omega (arith, e));
+        short = λ _. omega arith;
+      };
+    })
 
-  -- their datatypes, which are opaque, are not read
-  name-3 : Body 12 282 24
-  unfolding read bind le sizes3 knownClass knownType dataTypeHeader typeLayer dataType typeSpaceValue
-  name-3 = attribute-of-version-3 291 _ (sound kinds sizes3 282 291 _ refl) (omega arith) (omega arith) (λ q v h. absurd (none kinds (typeSpaceValue 3 state) 293 11 refl q v h))
+-- their datatypes, which are opaque, are not read
+name-3 : Body 12 282 24
+unfolding read bind le sizes3 knownClass knownType dataTypeHeader typeLayer dataType typeSpaceValue
+name-3 = attribute-of-version-3 291 _ (sound kinds sizes3 282 291 _ refl) (omega arith) (omega arith) (λ q v h. absurd (none kinds (typeSpaceValue 3 state) 293 11 refl q v h))
 
-  name-1 : Body 12 310 33
-  unfolding read bind le sizes1 knownClass knownType dataTypeHeader typeLayer dataType typeSpaceValue
-  name-1 = attribute-of-version-1 318 _ (sound kinds sizes1 310 318 _ refl) (omega arith) (omega arith) (λ q v h. absurd (none kinds (typeSpaceValue 1 state) 326 11 refl q v h))
+name-1 : Body 12 310 33
+unfolding read bind le sizes1 knownClass knownType dataTypeHeader typeLayer dataType typeSpaceValue
+name-1 = attribute-of-version-1 318 _ (sound kinds sizes1 310 318 _ refl) (omega arith) (omega arith) (λ q v h. absurd (none kinds (typeSpaceValue 1 state) 326 11 refl q v h))
 
-  attributes : Body 21 347 10
-  unfolding read bind le optional address optionalAddress attributeInfoMessage
-  attributes = attribute-info 357 _ (sound kinds (attributeInfoMessage 2) 347 357 _ refl) (omega arith)
+attributes : Body 21 347 10
+unfolding read bind le optional address optionalAddress attributeInfoMessage
+attributes = attribute-info 357 _ (sound kinds (attributeInfoMessage 2) 347 357 _ refl) (omega arith)
 
-  other : Body 22 361 2
-  other = not-read {type = 22} (none-among 22 readTypes refl)
+other : Body 22 361 2
+other = not-read {type = 22} (none-among 22 readTypes refl)
 
 message : (type position size : ℕ) → (type ≡ 16 → ⊥) → Body type position size → ReadMessage kinds state (plainMessage type position size)
 message type position size n b = record { flags = refl; body-read = λ _. b; block-read = λ q c o t h e. absurd (n t) }

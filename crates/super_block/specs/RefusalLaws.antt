@@ -7,7 +7,7 @@ use lib.ListN.{length}
 use lib.Dec.{eqb, leb}
 use Rattle.format.specs.Format.{Out, found, refused, read, pick}
 use Rattle.format.specs.Refusals.{RefusedWith, RefusesWith}
-use Rattle.format.specs.RefusalLaws.{refused-otherwise, read-as, bind-as, check-as}
+use Rattle.format.specs.RefusalLaws.{refused-otherwise, read-refused, bind-refuses, check-refuses}
 use Rattle.records.specs.declared.Address.{Address}
 use Rattle.records.specs.declared.Address.the-variants as cases
 use Rattle.helpers.specs.Addresses.{address, defined, definedAddress}
@@ -23,7 +23,7 @@ address-as w = λ n. tt
 
 defined-address-as : (w : ℕ) → RefusesWith ofBlock (definedAddress w 3)
 unfolding definedAddress
-defined-address-as w = bind-as ofBlock (address w) (defined 3) (address-as w) go
+defined-address-as w = bind-refuses ofBlock (address w) (defined 3) (address-as w) go
   where
     go : (a : Address) → RefusesWith ofBlock (defined 3 a)
     go cases.Undefined = refl
@@ -32,19 +32,19 @@ defined-address-as w = bind-as ofBlock (address w) (defined 3) (address-as w) go
 block-as : RefusesWith ofBlock superBlock
 unfolding superBlock addresses
 block-as =
-    λ signature. check-as ofBlock (eqb signature formatSignature) 25 _ refl (
-    λ version. check-as ofBlock (eqb version 2 || eqb version 3) 26 _ refl (
-    λ o. check-as ofBlock (widthAllowed o) 1 _ refl (
-    λ l. check-as ofBlock (widthAllowed l) 1 _ refl (
-    λ flags base. check-as ofBlock (eqb base 0) 27 _ refl (
-    bind-as ofBlock (address o) _ (address-as o) (λ _.
-    bind-as ofBlock (definedAddress o 3) _ (defined-address-as o) (λ _.
-    bind-as ofBlock (definedAddress o 3) _ (defined-address-as o) (λ _ _. tt))))))))
+    λ signature. check-refuses ofBlock (eqb signature formatSignature) 25 _ refl (
+    λ version. check-refuses ofBlock (eqb version 2 || eqb version 3) 26 _ refl (
+    λ o. check-refuses ofBlock (widthAllowed o) 1 _ refl (
+    λ l. check-refuses ofBlock (widthAllowed l) 1 _ refl (
+    λ flags base. check-refuses ofBlock (eqb base 0) 27 _ refl (
+    bind-refuses ofBlock (address o) _ (address-as o) (λ _.
+    bind-refuses ofBlock (definedAddress o 3) _ (defined-address-as o) (λ _.
+    bind-refuses ofBlock (definedAddress o 3) _ (defined-address-as o) (λ _ _. tt))))))))
 
 module _ (file : List ℕ) where
   -- behind its fields, the checksum
   pub summed-as : RefusedWith ofBlock (summed file (read file superBlock 0))
-  summed-as = go (read file superBlock 0) (read-as ofBlock refl file superBlock 0 block-as)
+  summed-as = go (read file superBlock 0) (read-refused ofBlock refl file superBlock 0 block-as)
     where
       tested : (t : Bool) (b : SuperBlock) (q : ℕ) → RefusedWith ofBlock (pick t (found b q) (refused 28))
       tested true b q = tt
