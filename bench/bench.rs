@@ -1,32 +1,25 @@
 //! The port and the Rust on the same inputs, by one driver. The Rust is the mended copy, which reads
 //! what the port reads, so that both do the same work.
 //!
-//!     bench make INPUTS CHUNKED [FILE...] -- [FILE...]
-//!                                 writes the inputs into two directories: made ones, real files, and
-//!                                 their headers; and headers with chunks, whose tree the Rust lacks.
-//!                                 Of the files behind -- only these are taken
-//!     bench SIDE INPUT TIMES      decodes an input so many times; SIDE is port or rust, or check, which
-//!                                 is the port's check of the same header
-//!     bench time INPUT            nanoseconds a call, the best of many runs: port, rust, check
-//!     bench entries INPUT         the entries of an input that both sides accept
-//!     bench summed INPUT          the lengths of what the port sums in it
-//!     bench chunks INPUT          the levels, the nodes and the chunks of its tree
+//!     bench make DIRECTORY [FILE...]   writes the inputs: made ones, real files, and their headers
+//!     bench SIDE INPUT TIMES           decodes an input so many times; SIDE is port or rust, or
+//!                                      check, which is the port's check of the same header
+//!     bench time INPUT                 nanoseconds a call, the best of many runs: port, rust, check
+//!     bench entries INPUT              the entries of an input that both sides accept
+//!     bench summed INPUT               the lengths of what the port sums in it
 
 use std::hint::black_box;
 use std::path::Path;
 use std::process::ExitCode;
 use std::time::Instant;
 
-use sides::address::LAYOUT;
 use sides::closing::Summed;
 use sides::input::{Input, put};
-use sides::pair::Lent;
 use sides::plain::SIGNATURE;
 use sides::port::{Outcome as PortOutcome, Port};
 use sides::real;
 use sides::rust::mended::{rust_answer, rust_data_object, rust_parses, rust_super_block};
 use sides::rust::{self, Outcome};
-use sides::storage::{self, Data, List, MOST_CHUNKS};
 use sides::sum::lookup3;
 
 const LEVELS: usize = 25;
@@ -37,9 +30,6 @@ const CONTINUATION: u8 = 16;
 const CONTINUATION_BYTES: usize = 4 + 8 + 8;
 /// A header's fields and an entry's prefix.
 const FIRST_BYTES: usize = 10 + 4;
-
-/// Inputs with their names.
-type Named = Vec<(String, Input)>;
 
 /// The words of dowringaf.h that a check answers.
 #[repr(C)]
@@ -188,74 +178,7 @@ fn skipped(bytes: usize) -> Input {
     flat(1, |_| entry(0, &vec![0; bytes - FIRST_BYTES]))
 }
 
-/// The dimensionality of the chunks that are made: a dataset of three sizes, as impulse responses are,
-/// and its element.
-const DIMENSIONALITY: usize = 4;
-/// The trees that are made: the entries of a node on each level, from the root down.
-const TREES: &[(&str, &[usize])] = &[
-    ("chunks-leaf-1", &[1]),
-    ("chunks-leaf-16", &[16]),
-    ("chunks-leaf-64", &[64]),
-    ("chunks-tree-64-64", &[64, 64]),
-    ("chunks-tree-16-16-16", &[16, 16, 16]),
-];
-
-/// A dataset's header with chunks, and behind its sum the nodes of their tree.
-fn chunked(entries: &[usize]) -> Input {
-    let space = words(&[2, 3, 0, 1], &[100, 2, 100]);
-    let mut layout = vec![3, 2, DIMENSIONALITY as u8];
-    let address = layout.len();
-    layout.resize(address + 8 + 4 * DIMENSIONALITY, 1);
-    let chunk = [entry(1, &space), message(3), message(5)].concat();
-    let mut file = header(chunk.len() + 4 + layout.len());
-    file.extend(chunk);
-    let behind = file.len() + 4 + layout.len() + 4;
-    let mut nodes = Vec::new();
-    let root = put_node(&mut nodes, behind, entries);
-    layout[address..address + 8].copy_from_slice(&root.to_le_bytes());
-    file.extend(entry(LAYOUT, &layout));
-    put_sum(&mut file, 0);
-    file.extend(nodes);
-    input(file)
-}
-
-/// A node and those below it, which stand before it; answers its address. The nodes begin at a place.
-fn put_node(nodes: &mut Vec<u8>, at: usize, entries: &[usize]) -> u64 {
-    let (count, below) = (entries[0], &entries[1..]);
-    let addresses: Vec<u64> = (0..count)
-        .map(|number| match below {
-            [] => 64 + number as u64,
-            _ => put_node(nodes, at, below),
-        })
-        .collect();
-    let address = at + nodes.len();
-    nodes.extend(b"TREE\x01");
-    nodes.push(below.len() as u8);
-    put(nodes, count as u64, 2);
-    nodes.extend([255; 2 * 8]);
-    for address in addresses {
-        put_key(nodes, address);
-        put(nodes, address, 8);
-    }
-    put_key(nodes, 0);
-    address as u64
-}
-
-/// Stored size, filter mask and offsets.
-fn put_key(nodes: &mut Vec<u8>, number: u64) {
-    put(nodes, number, 4);
-    put(nodes, 0, 4);
-    (0..DIMENSIONALITY).for_each(|_| put(nodes, number, 8));
-}
-
-fn made_chunks() -> Named {
-    let trees = TREES.iter();
-    trees
-        .map(|(name, entries)| (name.to_string(), chunked(entries)))
-        .collect()
-}
-
-fn made() -> Named {
+fn made() -> Vec<(String, Input)> {
     let kinds: [(&str, fn(usize) -> Vec<u8>); 2] = [("messages", message), ("nil", nil)];
     let mut inputs = Vec::new();
     for (name, make) in kinds {
@@ -271,27 +194,14 @@ fn made() -> Named {
     inputs
 }
 
-/// The headers of a real file that both sides accept, named by the file and their positions: those
-/// without chunks, and those with chunks.
-fn real_inputs(path: &Path) -> std::io::Result<(Named, Named)> {
+/// The headers of a real file that the Rust accepts, named by the file and their positions.
+fn real_inputs(path: &Path) -> std::io::Result<Vec<(String, Input)>> {
     let stem = path.file_stem().unwrap_or_default().to_string_lossy();
     let headers = real::headers(&[path.to_path_buf()])?;
-    let accepts = |h: &Input| {
-        rust_data_object(h).is_some() && matches!(Port::default().answer(h), PortOutcome::Read(_))
-    };
-    let accepted = headers.into_iter().filter(accepts);
-    let named = accepted.map(|h| (format!("{stem}-{:05}", h.position), h));
-    Ok(named.partition(|(_, h)| list(h).is_none()))
-}
-
-/// The chunks of an input that is accepted: those of its last layout.
-fn list(input: &Input) -> Option<List> {
-    let entries = rust_answer(input).entries;
-    let layout = entries.iter().rev().find(|entry| entry.kind == LAYOUT)?;
-    match storage::read(input, layout.body, MOST_CHUNKS) {
-        Ok(Data::Chunks(list)) => Some(list),
-        _ => None,
-    }
+    let accepted = headers.into_iter().filter(|h| rust_data_object(h).is_some());
+    Ok(accepted
+        .map(|h| (format!("{stem}-{:05}", h.position), h))
+        .collect())
 }
 
 /// Whether a file is one that both sides take as a whole.
@@ -299,34 +209,17 @@ fn is_plain(file: &[u8]) -> bool {
     rust_parses(file) && Port::default().root_object(file).is_some()
 }
 
-fn make(
-    directory: &Path,
-    chunked: &Path,
-    files: &[&str],
-    further: &[&str],
-) -> std::io::Result<()> {
-    rust::open();
+fn make(directory: &Path, files: &[&str]) -> std::io::Result<()> {
     std::fs::create_dir_all(directory)?;
-    let (mut inputs, mut with_chunks) = (made(), made_chunks());
-    for path in further.iter().map(Path::new) {
-        with_chunks.extend(real_inputs(path)?.1);
-    }
+    let mut inputs = made();
     for path in files.iter().map(Path::new) {
-        let (real, real_chunked) = real_inputs(path)?;
-        inputs.extend(real);
-        with_chunks.extend(real_chunked);
+        inputs.extend(real_inputs(path)?);
         let file = std::fs::read(path)?;
         if is_plain(&file) {
             let stem = path.file_stem().unwrap_or_default().to_string_lossy();
             std::fs::write(directory.join(format!("{stem}-file")), file)?;
         }
     }
-    write(directory, inputs)?;
-    write(chunked, with_chunks)
-}
-
-fn write(directory: &Path, inputs: Named) -> std::io::Result<()> {
-    std::fs::create_dir_all(directory)?;
     for (name, input) in inputs {
         std::fs::write(directory.join(name), input.to_bytes())?;
     }
@@ -349,13 +242,11 @@ fn by_hand(given: &Given) -> Input {
     }
 }
 
-/// As many rows as the header has messages, which the check must say too, and as many chunk rows as it
-/// has chunks.
+/// As many rows as the header has messages, which the check must say too.
 fn port_for(given: &Given) -> Port {
     match Port::default().answer(&by_hand(given)) {
         PortOutcome::Read(header) => {
             let rows = header.rows.len();
-            let chunks = header.stored.map_or(0, |stored| stored.chunks.len());
             let expected = Checked {
                 refused: 0,
                 next: header.next,
@@ -363,7 +254,7 @@ fn port_for(given: &Given) -> Port {
                 rows: rows as u64,
             };
             assert_eq!(check(given), expected, "the check");
-            Port::lending(Lent { rows, chunks })
+            Port::lending(rows)
         }
         PortOutcome::Refused(number) => panic!("the port refuses with {number}"),
     }
@@ -446,13 +337,6 @@ fn entries(given: &Given) {
     }
 }
 
-fn chunks(given: &Given) {
-    rust::open();
-    let list = list(&by_hand(given)).unwrap_or_default();
-    let levels = list.level.map_or(0, |level| level + 1);
-    println!("{levels} {} {}", list.nodes, list.chunks.len());
-}
-
 fn summed(given: &Given) {
     rust::open();
     let closings = match given {
@@ -467,22 +351,17 @@ fn main() -> ExitCode {
     let words: Vec<String> = std::env::args().skip(1).collect();
     let words: Vec<&str> = words.iter().map(String::as_str).collect();
     match words[..] {
-        ["make", directory, chunked, ref files @ ..] => {
-            let end = files.iter().position(|word| *word == "--");
-            let (files, further) = files.split_at(end.unwrap_or(files.len()));
-            let further = further.get(1..).unwrap_or_default();
-            make(Path::new(directory), Path::new(chunked), files, further)
-                .expect("inputs are written");
+        ["make", directory, ref files @ ..] => {
+            make(Path::new(directory), files).expect("inputs are written");
         }
         ["time", path] => time(&load(path)),
         ["entries", path] => entries(&load(path)),
         ["summed", path] => summed(&load(path)),
-        ["chunks", path] => chunks(&load(path)),
         [side @ ("port" | "rust" | "check"), path, times] => {
             run(side, &load(path), times.parse().expect("a number"));
         }
         _ => {
-            eprintln!("usage: bench make INPUTS CHUNKED [FILE...] -- [FILE...] | port|rust|check INPUT TIMES | time|entries|summed|chunks INPUT");
+            eprintln!("usage: bench make DIRECTORY [FILE...] | port|rust|check INPUT TIMES | time|entries|summed INPUT");
             return ExitCode::from(2);
         }
     }

@@ -1,11 +1,9 @@
 /*
- * Prints what an object header holds, or the chunks of its data, or the attributes of some names in
- * it.
+ * Prints what an object header holds, or the attributes of some names in it.
  *
  *   decode [OPTION]... FILE
  *   decode [OPTION]... FILE POSITION
  *   decode [OPTION]... FILE POSITION OFFSET_WIDTH LENGTH_WIDTH END_OF_FILE
- *   decode [OPTION]... FILE ... --chunks
  *   decode [OPTION]... FILE ... --find NAME...
  *
  * The first takes the root group's header and the second the header at a position, both by the
@@ -40,16 +38,7 @@
  *
  * A header is checked first, and then as many rows are set aside as it takes. With --check it stays
  * at that, and in place of the header's lines one is printed: `checked`, the position after the
- * header, its entries and its rows. How many chunk rows it takes the check does not tell: they are
- * doubled as long as they are too few.
- *
- * Where the layout is chunked, one line more is printed at the end, `chunks`, with the layout's
- * dimensionality and the number of chunks. With --chunks, behind what tells the header or among the
- * options, a line for each chunk stands in place of the header's lines, in the order of the tree:
- * its address, its stored size, its filter mask and its offsets, as many as the layout has
- * dimensions, that of the element last. A header without chunks has no such line, and that is said.
- *
- *   chunk,44223,3821,0x00000000,0,0,239,0
+ * header, its entries and its rows.
  *
  * With --find behind what tells the header, all further words are names, which are looked up in one
  * call; of a SOFA file's root they are its global attributes. In place of the header's lines there
@@ -71,7 +60,7 @@
 #include "dowringaf.h"
 #include "refusals.h"
 
-enum { LEAST_ROOM = 65536, LEAST_CHUNKS = 4096, DATA_LAYOUT = 8 };
+enum { LEAST_ROOM = 65536, DATA_LAYOUT = 8 };
 
 /* One byte more than is decoded, so that a larger file is refused without being read whole. */
 #define MOST_ROOM ((size_t)DOWRINGAF_MOST_BYTES + 1)
@@ -83,9 +72,8 @@ enum { POSITION, OFFSET_WIDTH, LENGTH_WIDTH, END_OF_FILE, NUMBERS };
 enum { READ = 0, REFUSED = 1, FAILED = 2 };
 
 /* The options in front of the file's name, and whether they are given. */
-enum { CHECK, CHUNKS, DATA, RAW, HELP, VERSION, OPTIONS };
-static const char *const options[OPTIONS] = {"--check", "--chunks", "--data",
-                                             "--raw",   "--help",   "--version"};
+enum { CHECK, DATA, RAW, HELP, VERSION, OPTIONS };
+static const char *const options[OPTIONS] = {"--check", "--data", "--raw", "--help", "--version"};
 static int given[OPTIONS];
 
 static dowringaf_object object;
@@ -454,32 +442,6 @@ static void put_layout(const struct bytes *file, const dowringaf_layout *layout)
     putchar('\n');
 }
 
-/* The line of a chunked layout; no other has it. */
-static void put_chunk_count(const dowringaf_layout *layout, uint64_t chunks)
-{
-    if (layout->dimensionality != 0) {
-        fputs("chunks", stdout);
-        put_number(layout->dimensionality);
-        put_number(chunks);
-        putchar('\n');
-    }
-}
-
-/* The offsets of a chunk are as many as its layout has dimensions. */
-static void put_chunk(const uint64_t *chunk, uint64_t dimensionality)
-{
-    uint64_t i;
-
-    fputs("chunk", stdout);
-    put_number(chunk[DOWRINGAF_CHUNK_ADDRESS]);
-    put_number(chunk[DOWRINGAF_CHUNK_STORED_SIZE]);
-    printf(",0x%08llx", (unsigned long long)chunk[DOWRINGAF_CHUNK_FILTER_MASK]);
-    for (i = 0; i < dimensionality; i++) {
-        put_number(chunk[DOWRINGAF_CHUNK_OFFSETS + i]);
-    }
-    putchar('\n');
-}
-
 /* The line of a refusal, and what was refused and why in words. */
 static int refuse(const struct bytes *file, const char *what, uint64_t number)
 {
@@ -493,23 +455,15 @@ static int refuse(const struct bytes *file, const char *what, uint64_t number)
     return REFUSED;
 }
 
-enum { HEADER_NAME = 40 };
-
-/* What the header is called that the numbers lead to, or without numbers the root's. */
-static const char *name_header(char name[HEADER_NAME], const uint64_t *numbers)
-{
-    if (numbers == NULL) {
-        return "root's header";
-    }
-    sprintf(name, "header at %llu", (unsigned long long)numbers[POSITION]);
-    return name;
-}
-
+/* The header that the numbers lead to, or without numbers the root's. */
 static int refuse_header(const struct bytes *file, const uint64_t *numbers, uint64_t number)
 {
-    char name[HEADER_NAME];
+    char what[40] = "root's header";
 
-    return refuse(file, name_header(name, numbers), number);
+    if (numbers != NULL) {
+        sprintf(what, "header at %llu", (unsigned long long)numbers[POSITION]);
+    }
+    return refuse(file, what, number);
 }
 
 /* What stands in a heap has no row, since none is read. */
@@ -567,25 +521,8 @@ static void put_object(const struct bytes *file, const uint64_t *table)
     put_group_info(&object.group_info);
     put_attribute_info(&object.attribute_info);
     put_layout(file, &object.layout);
-    put_chunk_count(&object.layout, object.chunks);
     tell_heap(file, "attributes", &object.attribute_info.fractal_heap_address);
     tell_heap(file, "links", &object.link_info.fractal_heap_address);
-}
-
-/* A line for each chunk. Where there is none, nothing is printed, and it is said why. */
-static void put_chunks(const struct bytes *file, const uint64_t *numbers, const uint64_t *chunks)
-{
-    char name[HEADER_NAME];
-    uint64_t i;
-
-    for (i = 0; i < object.chunks; i++) {
-        put_chunk(chunks + i * DOWRINGAF_CHUNK_WORDS, object.layout.dimensionality);
-    }
-    if (object.chunks == 0) {
-        say(file->path, "%s has %s", name_header(name, numbers),
-            object.layout.dimensionality == 0 ? "no chunked layout"
-                                              : "a chunked layout without chunks");
-    }
 }
 
 /* What the numbers lead to, or without numbers the root's header. */
@@ -599,39 +536,15 @@ static dowringaf_checked check(const struct bytes *file, const uint64_t *numbers
                                        numbers[END_OF_FILE]);
 }
 
-/* The same header, into two tables. */
-static void fill(const struct bytes *file, const uint64_t *numbers, uint64_t *table, size_t words,
-                 uint64_t *chunks, size_t chunk_words)
+/* The same header, into a table. */
+static void fill(const struct bytes *file, const uint64_t *numbers, uint64_t *table, size_t words)
 {
     if (numbers == NULL) {
-        dowringaf_root_object(file->at, file->count, table, words, chunks, chunk_words, &object);
+        dowringaf_root_object(file->at, file->count, table, words, &object);
     } else {
         dowringaf_data_object(file->at, file->count, numbers[POSITION], numbers[OFFSET_WIDTH],
-                              numbers[LENGTH_WIDTH], numbers[END_OF_FILE], table, words, chunks,
-                              chunk_words, &object);
-    }
-}
-
-/*
- * The same with as many chunk rows as it takes: twice as many as long as they are too few, which
- * the most never are. Yields the chunk table, or NULL where there is no memory for it.
- */
-static uint64_t *fill_chunks(const struct bytes *file, const uint64_t *numbers, uint64_t *table,
-                             size_t words)
-{
-    size_t rows;
-
-    for (rows = LEAST_CHUNKS;; rows *= 2) {
-        uint64_t *chunks = calloc(rows, DOWRINGAF_CHUNK_WORDS * sizeof *chunks);
-
-        if (chunks == NULL) {
-            return NULL;
-        }
-        fill(file, numbers, table, words, chunks, rows * DOWRINGAF_CHUNK_WORDS);
-        if (object.refused != DOWRINGAF_CHUNK_ROWS || rows >= DOWRINGAF_MOST_CHUNKS) {
-            return chunks;
-        }
-        free(chunks);
+                              numbers[LENGTH_WIDTH], numbers[END_OF_FILE], table, words,
+                              &object);
     }
 }
 
@@ -706,7 +619,7 @@ static int find(const struct bytes *file, const uint64_t *table, const struct na
 
 /* What is asked of a header that is decoded. */
 static int put_asked(const struct bytes *file, const uint64_t *numbers, const uint64_t *table,
-                     const uint64_t *chunks, const struct names *names)
+                     const struct names *names)
 {
     if (object.refused != 0) {
         return refuse_header(file, numbers, object.refused);
@@ -714,11 +627,7 @@ static int put_asked(const struct bytes *file, const uint64_t *numbers, const ui
     if (names->asked) {
         return find(file, table, names);
     }
-    if (given[CHUNKS]) {
-        put_chunks(file, numbers, chunks);
-    } else {
-        put_object(file, table);
-    }
+    put_object(file, table);
     return READ;
 }
 
@@ -727,16 +636,13 @@ static int decode_rows(const struct bytes *file, const uint64_t *numbers, size_t
                        const struct names *names)
 {
     uint64_t *table = calloc(rows, DOWRINGAF_ROW_WORDS * sizeof *table);
-    uint64_t *chunks;
     int status;
 
     if (table == NULL && rows != 0) {
         return fail("memory for the table", ENOMEM);
     }
-    chunks = fill_chunks(file, numbers, table, rows * DOWRINGAF_ROW_WORDS);
-    status = chunks == NULL ? fail("memory for the chunks", ENOMEM)
-                            : put_asked(file, numbers, table, chunks, names);
-    free(chunks);
+    fill(file, numbers, table, rows * DOWRINGAF_ROW_WORDS);
+    status = put_asked(file, numbers, table, names);
     free(table);
     return status;
 }
@@ -793,8 +699,7 @@ static int decode_file(const char *path, uint64_t *numbers, int count, const str
 }
 
 static const char usage[] =
-    "decode [OPTION]... FILE [POSITION [OFFSET_WIDTH LENGTH_WIDTH END_OF_FILE]] "
-    "[--chunks | --find NAME...]\n";
+    "decode [OPTION]... FILE [POSITION [OFFSET_WIDTH LENGTH_WIDTH END_OF_FILE]] [--find NAME...]\n";
 
 static int refuse_words(void)
 {
@@ -816,14 +721,12 @@ static void put_help(void)
           "  --help      print this\n"
           "  --version   print the version\n"
           "  --          end the options: what follows is the file\n"
-          "  --chunks    behind the file, or before it: print a line for each chunk of the data,\n"
-          "              and nothing else of the header; none where the data are not chunked\n"
           "  --find      behind the file: look these attributes up, at most 32\n"
           "\n"
           "The exit status is 0 where the header is read, 1 where something is refused, and 2 for\n"
           "wrong words and errors of the system. What is refused and why, that the file is cut,\n"
-          "that attributes or links stand in a heap, and that there are no chunks, is said on\n"
-          "standard error. README.md has the lines and figures, the refusals, and what to do.\n",
+          "and that attributes or links stand in a heap, is said on standard error. README.md has\n"
+          "the lines and figures, the refusals, and what to do.\n",
           stdout);
 }
 
@@ -900,17 +803,7 @@ static int take_names(int count, char **words, struct names *names)
     return count;
 }
 
-/* Takes --chunks off the end of the words that are left. Yields how many are left then. */
-static int take_chunks(int count, char **words)
-{
-    if (count == 0 || strcmp(words[count - 1], options[CHUNKS]) != 0) {
-        return count;
-    }
-    given[CHUNKS] = 1;
-    return count - 1;
-}
-
-/* The file and what stands behind it. At most one thing is asked in place of the header's lines. */
+/* The file and what stands behind it. */
 static int run(int count, char **words)
 {
     uint64_t numbers[NUMBERS];
@@ -921,8 +814,7 @@ static int run(int count, char **words)
         return refuse_words();
     }
     left = take_names(count - 1, words + 1, &names);
-    left = take_chunks(left, words + 1);
-    if (names.asked + given[CHUNKS] + given[CHECK] > 1 || (names.asked && names.count == 0)) {
+    if (names.asked && (names.count == 0 || given[CHECK])) {
         return refuse_words();
     }
     left = numbers_of(left, words + 1, numbers);

@@ -11,15 +11,15 @@
  *
  *   - they always return, and allocate nothing;
  *   - they keep no state between calls, and call nothing but memset and memcpy; so threads may call
- *     them at the same time, each with tables, an object, answers or out of its own;
+ *     them at the same time, each with a table, an object, answers or out of its own;
  *   - they read nothing beyond the elements that they are given;
- *   - they write nothing but the two tables and the object, or the answers, or out.
+ *   - they write nothing but the table and the object, or the answers, or out.
  *
  * The proofs rest on what the caller guarantees. Nothing of it is tested:
  *
  *   - a pointer with a count points to that many initialised elements, aligned; with a count of 0
  *     it may be NULL; out points to DOWRINGAF_LISTING of them, and the object is initialised too;
- *   - what a call writes (either table, the object, the answers, or out) overlaps nothing else that
+ *   - what a call writes (the table and the object, the answers, or out) overlaps nothing else that
  *     it is given;
  *   - no other thread, and no interrupt, device or process that shares the memory, writes to what
  *     is given, or reads what the call writes, during the call: a file that is mapped must not be
@@ -41,10 +41,8 @@
  * types fail at the file's last byte reach this: 4,096 of them took 0.3 s in 65,536 bytes, 3 s in
  * 1,048,576 and up to 157 s in 16,777,216 (docs/DECISIONS.md, "The time of a call"). Blocks of
  * nearly a whole file, opened as often as entries allow, took 0.1 s, 0.7 s and 10 s for their
- * checksums in files of about these sizes. To that come the chunk trees, whatever the file's size:
- * a header has at most 1,048,576 chunks, and at most 256 nodes are read for one. As many in a file
- * of 33,986 bytes took 4 s. Where an answer is due within a time, bound file_bytes, and for a
- * filling without a check table_words and chunk_words.
+ * checksums in files of about these sizes. Where an answer is due within a time, bound file_bytes,
+ * or for a filling without a check table_words.
  *
  * Every struct below is made of 64-bit words, without padding.
  */
@@ -67,11 +65,11 @@ extern "C" {
  * answers, and goes on only where the two are equal: the linker does not see that a struct has
  * grown.
  */
-#define DOWRINGAF_LIBRARY_VERSION 2
+#define DOWRINGAF_LIBRARY_VERSION 1
 uint64_t dowringaf_version(void);
 
 /* The words of an object, of which a library of another version would write more or fewer. */
-#define DOWRINGAF_OBJECT_WORDS 67
+#define DOWRINGAF_OBJECT_WORDS 65
 
 /* The bytes of the largest file. */
 #define DOWRINGAF_MOST_BYTES 2147483648u
@@ -79,20 +77,14 @@ uint64_t dowringaf_version(void);
 /* The most entries that a header has, and so the most rows. */
 #define DOWRINGAF_MOST_ENTRIES 4096
 
-/* The most chunks that a header has, in the lists of all its layouts together. */
-#define DOWRINGAF_MOST_CHUNKS 1048576
-
 /*
  * Bytes of stack that dowringaf_data_object, dowringaf_root_object and the two checks stay below,
  * and those that dowringaf_list does.
  */
-#define DOWRINGAF_DECODING_STACK 49152
+#define DOWRINGAF_DECODING_STACK 32768
 #define DOWRINGAF_LISTING_STACK 86016
 
-/*
- * Why a superblock, a header or a lookup is refused; 0 where it is not. The number 14 is unused: up
- * to version 1 it was that of chunked data layouts, which are read since.
- */
+/* Why a superblock, a header or a lookup is refused; 0 where it is not. */
 enum dowringaf_refusal {
     DOWRINGAF_WIDTH = 1,                   /* a width that is not 2 to 8 */
     DOWRINGAF_FILE_SIZE = 2,               /* a file above 2,147,483,648 bytes; for the listing, above 65,536 */
@@ -100,13 +92,14 @@ enum dowringaf_refusal {
     DOWRINGAF_SIGNATURE = 4,               /* not OHDR */
     DOWRINGAF_VERSION = 5,                 /* the header's version */
     DOWRINGAF_HEADER_FLAGS = 6,            /* bit 4 of the header's flags */
-    DOWRINGAF_CHUNK_SIZE = 7,              /* a header's own chunk above 16,777,216 bytes */
+    DOWRINGAF_CHUNK_SIZE = 7,              /* a chunk above 16,777,216 bytes */
     DOWRINGAF_ENTRY_FLAGS = 8,             /* an entry's flags */
     DOWRINGAF_DATASPACE = 9,               /* a dataspace */
     DOWRINGAF_LINK_INFO = 10,              /* a link info */
     DOWRINGAF_DATATYPE = 11,               /* a datatype */
     DOWRINGAF_FILL = 12,                   /* a fill value */
     DOWRINGAF_LAYOUT = 13,                 /* a data layout */
+    DOWRINGAF_CHUNKED = 14,                /* a chunked data layout */
     DOWRINGAF_GROUP_INFO = 15,             /* a group info */
     DOWRINGAF_FILTER_PIPELINE = 16,        /* a filter pipeline */
     DOWRINGAF_ATTRIBUTE = 17,              /* an attribute */
@@ -121,17 +114,13 @@ enum dowringaf_refusal {
     DOWRINGAF_SUPERBLOCK_VERSION = 26,     /* a superblock of a version other than 2 and 3 */
     DOWRINGAF_BASE_ADDRESS = 27,           /* a base address other than 0 */
     DOWRINGAF_CHECKSUM = 28,               /* a checksum that is not that of its bytes */
-    DOWRINGAF_NAMES = 29,                  /* more than 32 names, or more than the answers lent */
-    DOWRINGAF_TREE_NODE = 30,              /* a node of a chunk tree, or an address in it */
-    DOWRINGAF_TREE_LEVEL = 31,             /* a node not exactly one level below its parent */
-    DOWRINGAF_CHUNK_ROWS = 32              /* too few chunk rows, or a 1,048,577th chunk */
+    DOWRINGAF_NAMES = 29                   /* more than 32 names, or more than the answers lent */
 };
 
 /*
  * The words of a row of the table. Row i begins at word i * DOWRINGAF_ROW_WORDS. Positions count
  * from the file's first byte. A name or a part that the row lacks is 0 in all its words. A text may
- * be empty, which is a part of length 0: so is one of a size above 0 in a null dataspace. A chunked
- * layout has no part, be there chunks or not.
+ * be empty, which is a part of length 0: so is one of a size above 0 in a null dataspace.
  */
 enum dowringaf_row {
     DOWRINGAF_ROW_TYPE = 0,          /* the message's type */
@@ -147,22 +136,6 @@ enum dowringaf_row {
     DOWRINGAF_ROW_NUMBER = 10,       /* an attribute's number: an enum dowringaf_number */
     DOWRINGAF_ROW_NUMBER_BITS = 11,  /* its bits */
     DOWRINGAF_ROW_WORDS = 12
-};
-
-/*
- * The words of a row of the chunk table. Row i begins at word i * DOWRINGAF_CHUNK_WORDS. All but
- * the address stand in the key before the chunk, and are handed on as they are. As many of the
- * offsets are read as the layout has dimensions, that of the element last, and the others are 0.
- *
- * A chunk's bytes are not read, and need not be there: its address lies between 0 and the
- * end-of-file address, but may lie past the file, and its stored size may leave it.
- */
-enum dowringaf_chunk {
-    DOWRINGAF_CHUNK_ADDRESS = 0,     /* where its bytes begin, counted from the file's first */
-    DOWRINGAF_CHUNK_STORED_SIZE = 1, /* how many they are, as the filters left them */
-    DOWRINGAF_CHUNK_FILTER_MASK = 2, /* bit i is 1 where filter i of the pipeline was left out */
-    DOWRINGAF_CHUNK_OFFSETS = 3,     /* the first of five */
-    DOWRINGAF_CHUNK_WORDS = 8
 };
 
 /*
@@ -330,19 +303,13 @@ typedef struct dowringaf_part {
 } dowringaf_part;
 
 /*
- * Where the data of a dataset lie. An empty part is 0 and 0.
- *
- *   - Contiguous data have an address, as it is given, and a part, which is empty where the address
- *     is undefined, 0, or not below the end-of-file address, and where the size is 0.
- *   - Compact data have no address. Their part is empty where their size is 0.
- *   - Chunked data have the address of their tree, as it is given, and an empty part. Their
- *     dimensionality is that of the layout, 1 to 5, with the dimension of the element, which stands
- *     last; it is not compared with the dataspace. Of all others it is 0.
+ * Where the data of a dataset lie. The address is that of contiguous data, as it is given, also
+ * where the part is empty, which is 0 and 0: where the address is undefined, 0, or not below the
+ * end-of-file address, and where the size is 0. Compact data have no address, and an empty part.
  */
 typedef struct dowringaf_layout {
     dowringaf_optional_address address;
     dowringaf_part data; /* for dowringaf_layout_data */
-    uint64_t dimensionality;
 } dowringaf_layout;
 
 /*
@@ -362,13 +329,11 @@ typedef struct dowringaf_object {
     dowringaf_group_info group_info;
     dowringaf_attribute_info attribute_info;
     dowringaf_layout layout;
-    uint64_t chunks;  /* the rows of the chunk table that are filled, one for each chunk */
 } dowringaf_object;
 
 /*
  * What a header holds, told without a table. Where it is refused, every word but the first is 0. A
- * table for it has at least rows * DOWRINGAF_ROW_WORDS words; rows are at most 4,096. How many
- * chunks its longest list has is not told.
+ * table for it has at least rows * DOWRINGAF_ROW_WORDS words; rows are at most 4,096.
  */
 typedef struct dowringaf_checked {
     uint64_t refused; /* 0, or an enum dowringaf_refusal, never DOWRINGAF_TABLE */
@@ -401,22 +366,9 @@ typedef struct dowringaf_superblock {
 /*
  * Decodes the object header at a position of a file into a table of table_words words: a row of
  * DOWRINGAF_ROW_WORDS words for each message, in the header's order, then zeros. A header that is
- * refused leaves both tables zero. Writes every word of the object. What stood in the tables and
+ * refused leaves the whole table zero. Writes every word of the object. What stood in the table and
  * the object before makes no difference. Widths are in bytes. The position and end_of_file are
  * numbers, whatever they are; only an address that is read from the file may be undefined.
- *
- * The chunk table of chunk_words words has a row of DOWRINGAF_CHUNK_WORDS words for each chunk of
- * the layout that wins, in the order of its tree, once for each time that the tree leads to it,
- * then zeros. A layout that is not chunked has none, nor has one whose tree has no entries, or
- * whose address is undefined, 0, or not below end_of_file: chunks of the object is 0 then, and the
- * chunk table all zero, also where an earlier layout has chunks.
- *
- * The list of every layout must fit into the chunk table, be it replaced by a later one or not: a
- * chunk for which no row is free is DOWRINGAF_CHUNK_ROWS. So is the 1,048,577th chunk of all lists
- * together, whatever the table. Whoever lends no chunk table lends no words, NULL and 0; a header
- * with a chunk in it is DOWRINGAF_CHUNK_ROWS then, and every other is decoded. A tree is read when
- * its layout is, and a row is taken when its entry has been read: of a chunked layout for which
- * neither is left, DOWRINGAF_CHUNK_ROWS comes before DOWRINGAF_TABLE.
  *
  * The header and every block that it leads to must close with the standard's checksum of their
  * bytes (Jenkins' lookup3 with an initial value of 0), or the header is refused with
@@ -425,31 +377,25 @@ typedef struct dowringaf_superblock {
  */
 void dowringaf_data_object(const uint8_t *file, size_t file_bytes, uint64_t position,
                            uint64_t offset_width, uint64_t length_width, uint64_t end_of_file,
-                           uint64_t *table, size_t table_words, uint64_t *chunks,
-                           size_t chunk_words, dowringaf_object *object);
+                           uint64_t *table, size_t table_words, dowringaf_object *object);
 
 /*
- * Checks the object header at a position of a file, as dowringaf_data_object reads it, without
- * tables. Accepts exactly the headers that dowringaf_data_object accepts with rows enough, 4,096 at
- * most, and chunk rows enough, 1,048,576 at most, and refuses every other with the number that it
- * then has; so never with DOWRINGAF_TABLE, and with DOWRINGAF_CHUNK_ROWS only for the 1,048,577th
- * chunk of all lists together. Reads no byte of the file that is not read for filling.
+ * Checks the object header at a position of a file, as dowringaf_data_object reads it, without a
+ * table. Accepts exactly the headers that dowringaf_data_object accepts with rows enough, 4,096 at
+ * most, and refuses every other with the number that it then has; so never with DOWRINGAF_TABLE.
+ * Reads no byte of the file that is not read for filling.
  *
- * For the same bytes, position, widths and end_of_file, and for any tables:
+ * For the same bytes, position, widths and end_of_file, and for any table:
  *
  *   - a header that passes the check is turned back by dowringaf_data_object only with
- *     DOWRINGAF_TABLE or DOWRINGAF_CHUNK_ROWS, exactly when table_words / DOWRINGAF_ROW_WORDS is
- *     less than rows, or chunk_words / DOWRINGAF_CHUNK_WORDS less than the chunks of some layout,
- *     an earlier one included; otherwise next, entries and rows are the same;
+ *     DOWRINGAF_TABLE, exactly when table_words / DOWRINGAF_ROW_WORDS is less than rows; otherwise
+ *     next, entries and rows are the same;
  *   - a header that the check refuses is refused by dowringaf_data_object with the same number, or
- *     with DOWRINGAF_TABLE or DOWRINGAF_CHUNK_ROWS where a table was full before.
+ *     with DOWRINGAF_TABLE where the table was full before.
  *
- * So a caller can ask for the rows, set a table aside and fill it, as firmware/example.c does. How
- * many chunk rows it takes the check does not tell. Where the filling of a checked header is turned
- * back with DOWRINGAF_CHUNK_ROWS, more of them help, and DOWRINGAF_MOST_CHUNKS always do:
- * firmware/decode.c doubles them. All this helps only where the file is the same bytes in both
- * calls. Nothing of the check is believed: dowringaf_data_object tests everything by itself,
- * whatever was checked before.
+ * So a caller can ask for the rows, set a table aside and fill it, as firmware/example.c does. That
+ * helps only where the file is the same bytes in both calls. Nothing of the check is believed:
+ * dowringaf_data_object tests everything by itself, whatever was checked before.
  */
 dowringaf_checked dowringaf_check_data_object(const uint8_t *file, size_t file_bytes,
                                               uint64_t position, uint64_t offset_width,
@@ -509,12 +455,11 @@ dowringaf_superblock dowringaf_super_block(const uint8_t *file, size_t file_byte
 /*
  * Decodes the root group's object header: exactly as dowringaf_data_object does with the position,
  * the widths and the end-of-file address that dowringaf_super_block gives. Where the superblock is
- * refused, the object has its number, all else of it is as where a header is refused, and both
- * tables are zero.
+ * refused, the object has its number, all else of it is as where a header is refused, and the whole
+ * table is zero.
  */
 void dowringaf_root_object(const uint8_t *file, size_t file_bytes, uint64_t *table,
-                           size_t table_words, uint64_t *chunks, size_t chunk_words,
-                           dowringaf_object *object);
+                           size_t table_words, dowringaf_object *object);
 
 /*
  * Checks the root group's object header: exactly as dowringaf_check_data_object does with the
@@ -530,12 +475,10 @@ dowringaf_checked dowringaf_check_root_object(const uint8_t *file, size_t file_b
 /*
  * Writes the listing of a file of at most 65,536 bytes at the start of out, and yields its length.
  * What is listed is the root group's object header: it is checked as by dowringaf_check_root_object
- * and, where it passes, decoded as by dowringaf_root_object with 512 rows and 4,096 chunk rows
- * lent. So DOWRINGAF_TABLE is listed only of a header with more than 512 rows in which nothing else
- * is wrong, and DOWRINGAF_CHUNK_ROWS only of one with more than 4,096 chunks in a layout, or more
- * than 1,048,576 in all. The listing has a line for each row, without its number, and a last line,
- * or `refused,` and the refusal's number. No chunk is listed. The bytes of out after it are left as
- * they were.
+ * and, where it passes, decoded as by dowringaf_root_object with 512 rows lent. So DOWRINGAF_TABLE
+ * is listed only of a header with more than 512 rows in which nothing else is wrong. The listing
+ * has a line for each row, without its number, and a last line, or `refused,` and the refusal's
+ * number. The bytes of out after it are left as they were.
  */
 size_t dowringaf_list(const uint8_t *file, size_t file_bytes, uint8_t out[DOWRINGAF_LISTING]);
 

@@ -5,12 +5,11 @@
  *   example < FILE
  *
  * Prints the number of rows, and for each the type of its message and, of an attribute, the name,
- * and its number where it has one; and for each chunk of the data its address, its stored size and
- * its offsets. A file that is refused prints `refused,` and the refusal's number. The exit status
- * is 0 for either, and 2 where the file is too large for this program, there is no memory, or the
- * library is of another version. A file that is shorter or longer than its superblock says is told
- * of on standard error. Names are written as the bytes that they are, which is not for a terminal:
- * firmware/decode.c escapes them.
+ * and its number where it has one. A file that is refused prints `refused,` and the refusal's
+ * number. The exit status is 0 for either, and 2 where the file is too large for this program,
+ * there is no memory, or the library is of another version. A file that is shorter or longer than
+ * its superblock says is told of on standard error. Names are written as the bytes that they are,
+ * which is not for a terminal: firmware/decode.c escapes them.
  */
 #include <inttypes.h>
 #include <stdio.h>
@@ -23,14 +22,6 @@ enum { MOST_BYTES = 1048576 };
 /* One byte more, which shows that a file is larger. */
 static uint8_t file[MOST_BYTES + 1];
 static dowringaf_object object;
-
-/*
- * Chunk rows, of 64 bytes each. No check tells how many a header takes, so that a program has as
- * many as it can spare, up to DOWRINGAF_MOST_CHUNKS, and one that wants no chunks lends NULL and 0.
- * A header that takes more is DOWRINGAF_CHUNK_ROWS, and nothing of it is read.
- */
-enum { CHUNK_ROWS = 4096 };
-static uint64_t chunks[CHUNK_ROWS * DOWRINGAF_CHUNK_WORDS];
 
 static void put_line(const char *name, uint64_t number)
 {
@@ -65,39 +56,21 @@ static void put_row(const uint64_t *row)
     putchar('\n');
 }
 
-/* Whether the bytes are all there, no call says: their address and size are what the file has. */
-static void put_chunk(const uint64_t *chunk, uint64_t dimensionality)
-{
-    uint64_t i;
-
-    printf("chunk,%" PRIu64 ",%" PRIu64, chunk[DOWRINGAF_CHUNK_ADDRESS],
-           chunk[DOWRINGAF_CHUNK_STORED_SIZE]);
-    for (i = 0; i < dimensionality; i++) {
-        printf(",%" PRIu64, chunk[DOWRINGAF_CHUNK_OFFSETS + i]);
-    }
-    putchar('\n');
-}
-
 /*
- * Nothing wrote to the file since it was checked, so that the rows are enough, and nothing is
- * refused here but more chunks than there are rows for. The test is also for callers whose file may
- * have changed.
+ * Nothing wrote to the file since it was checked, so that nothing is refused here. The test is for
+ * callers whose file may have changed.
  */
 static void fill(size_t bytes, uint64_t *table, size_t rows)
 {
     uint64_t i;
 
-    dowringaf_root_object(file, bytes, table, rows * DOWRINGAF_ROW_WORDS, chunks,
-                          CHUNK_ROWS * DOWRINGAF_CHUNK_WORDS, &object);
+    dowringaf_root_object(file, bytes, table, rows * DOWRINGAF_ROW_WORDS, &object);
     if (object.refused != 0) {
         put_line("refused", object.refused);
         return;
     }
     for (i = 0; i < object.rows; i++) {
         put_row(table + i * DOWRINGAF_ROW_WORDS);
-    }
-    for (i = 0; i < object.chunks; i++) {
-        put_chunk(chunks + i * DOWRINGAF_CHUNK_WORDS, object.layout.dimensionality);
     }
 }
 

@@ -9,7 +9,7 @@
 
 #include "dowringaf.h"
 
-/* By the refusal's number; none for 14, which is unused. */
+/* By the refusal's number. */
 static const char *const refusal_words[] = {
     [DOWRINGAF_WIDTH] = "a width that is not 2 to 8",
     [DOWRINGAF_FILE_SIZE] = "a file above 2,147,483,648 bytes; for the listing, above 65,536",
@@ -18,7 +18,7 @@ static const char *const refusal_words[] = {
     [DOWRINGAF_SIGNATURE] = "no OHDR at the position, as in a version 1 header",
     [DOWRINGAF_VERSION] = "the header's version is not 2",
     [DOWRINGAF_HEADER_FLAGS] = "bit 4 of the header's flags",
-    [DOWRINGAF_CHUNK_SIZE] = "a header's own chunk above 16,777,216 bytes",
+    [DOWRINGAF_CHUNK_SIZE] = "a chunk above 16,777,216 bytes",
     [DOWRINGAF_ENTRY_FLAGS] = "an entry's flags other than 0, 1, 4 and 5: shared messages, among "
                               "others",
     [DOWRINGAF_DATASPACE] = "dataspace: version, more than 4 sizes, a size above 1,000,000, "
@@ -28,7 +28,8 @@ static const char *const refusal_words[] = {
                            "IEEE single or double, a version 1 member with dimensions",
     [DOWRINGAF_FILL] = "fill value: version, allocation time, write time, or whether it is defined",
     [DOWRINGAF_LAYOUT] = "data layout: a version other than 3, an unknown class, a size of "
-                         "268,435,456 or more, chunks of no dimensions or of more than 5",
+                         "268,435,456 or more",
+    [DOWRINGAF_CHUNKED] = "chunked data layout",
     [DOWRINGAF_GROUP_INFO] = "group info: a version other than 0",
     [DOWRINGAF_FILTER_PIPELINE] = "filter pipeline: version, 32 filters or more, reserved bytes, "
                                   "more than 4,096 values",
@@ -50,12 +51,6 @@ static const char *const refusal_words[] = {
                            "does not sum",
     [DOWRINGAF_NAMES] = "more than 32 names, or more than the answers lent; of no header and no "
                         "file",
-    [DOWRINGAF_TREE_NODE] = "chunk tree: a node without TREE, of a type other than 1, or without "
-                            "entries below the root; a child or a chunk outside the file as "
-                            "end-of-file bounds it, at 0, or at the undefined address",
-    [DOWRINGAF_TREE_LEVEL] = "chunk tree: a node that is not exactly one level below its parent",
-    [DOWRINGAF_CHUNK_ROWS] = "a 1,048,577th chunk in a header; or the chunk table has too few "
-                             "rows: the listing lends 4,096, and decode as many as it takes",
 };
 
 enum { REFUSALS = sizeof refusal_words / sizeof refusal_words[0] };

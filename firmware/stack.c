@@ -1,11 +1,10 @@
 /*
  * How much stack the calls use at the deepest: in the header of a file's root 25 levels of blocks,
- * and in the last of them a chunk tree of 256 levels and a type of 32, which are read; the same
- * with a type of 33, and with a last node that leads nowhere, which are refused; and the lookup of
- * 32 names in its table, whatever they are. The proofs say nothing of the stack. Each call runs in
- * a thread whose stack is filled with a pattern before, so that it shows how far it was written;
- * what a thread that calls nothing writes is taken off. Fails where a call uses more than
- * dowringaf.h says.
+ * and in the last of them a type of 32 levels, which is read, and one of 33, which is refused; and
+ * the lookup of 32 names in its table, whatever they are. The proofs say nothing of the stack. Each
+ * call runs in a thread whose stack is filled with a pattern before, so that it shows how far it
+ * was written; what a thread that calls nothing writes is taken off. Fails where a call uses more
+ * than dowringaf.h says.
  */
 #define _POSIX_C_SOURCE 200809L
 
@@ -17,34 +16,15 @@
 #include "dowringaf.h"
 #include "lookup3.h"
 
-enum { STACK = 1 << 18, PATTERN = 0xA5, BLOCKS = 25, SUPERBLOCK = 48, ROOM = 32768 };
+enum { STACK = 1 << 18, PATTERN = 0xA5, BLOCKS = 25, SUPERBLOCK = 48, ROOM = 4096 };
 
-/* The levels of a chunk tree, and the bytes of a layout of one dimension. */
-enum { TREE_LEVELS = 256, LAYOUT = 15 };
-
-/*
- * A header at its deepest: the levels of its type, where the last node of its tree leads, and what
- * is said of it, as a refusal or 0, and as the beginning of its listing.
- */
-static const struct deepest {
-    const char *name;
-    int types;
-    uint64_t chunk;
-    uint64_t refused;
-    const char *listing;
-} deepest[] = {
-    {"256 levels of nodes, 32 of types", 32, 1, 0, "0,8,"},
-    {"256 levels of nodes, 33 of types", 33, 1, DOWRINGAF_TYPE_LEVEL, "refused,22"},
-    {"256 levels of nodes, the last refused", 32, 0, DOWRINGAF_TREE_NODE, "refused,30"},
-};
-
-enum { DEEPEST = sizeof deepest / sizeof deepest[0] };
+/* The levels of types that are read. */
+enum { MOST_TYPES = 32 };
 
 static uint8_t file[ROOM];
 static size_t count;
 static uint64_t table[16 * DOWRINGAF_ROW_WORDS];
 static const size_t table_words = sizeof table / sizeof table[0];
-static uint64_t chunks[DOWRINGAF_CHUNK_WORDS];
 static uint8_t out[DOWRINGAF_LISTING];
 static dowringaf_object object;
 static dowringaf_object root_object;
@@ -105,39 +85,6 @@ static void put_types(int levels)
     put(32, 2);
 }
 
-/* Its tree stands at a place. */
-static void put_layout(size_t tree)
-{
-    put(8, 1);
-    put(LAYOUT, 2);
-    put(0, 1);
-    put(3, 1);
-    put(2, 1);
-    put(1, 1);
-    put(tree, 8);
-    put(0, 4);
-}
-
-/* A node on each level, from the highest on, and each leads to the next; the last to a chunk. */
-static void put_tree(uint64_t chunk)
-{
-    int level;
-
-    for (level = TREE_LEVELS - 1; level >= 0; level--) {
-        put_signature("TREE");
-        put(1, 1);
-        put((uint64_t)level, 1);
-        put(1, 2);
-        put(UINT64_MAX, 8);
-        put(UINT64_MAX, 8);
-        put(1, 8);
-        put(0, 8);
-        put(level == 0 ? chunk : count + 24, 8);
-        put(1, 8);
-        put(0, 8);
-    }
-}
-
 /* The superblock, in front of what is written. */
 static void write_superblock(void)
 {
@@ -157,11 +104,10 @@ static void write_superblock(void)
     count = bytes;
 }
 
-static void write_deepest(const struct deepest *d)
+static void write_deepest(int levels)
 {
     size_t from = SUPERBLOCK;
-    size_t type = (size_t)d->types * 8 + 4 + 4;
-    size_t last = 4 + 4 + LAYOUT + type + 4;
+    size_t last = (size_t)levels * 8 + 4 + 4 + 8;
     int i;
 
     count = from;
@@ -175,10 +121,8 @@ static void write_deepest(const struct deepest *d)
         from = count;
         put_signature("OCHK");
     }
-    put_layout(from + last);
-    put_types(d->types);
+    put_types(levels);
     put_sum(from);
-    put_tree(d->chunk);
     write_superblock();
 }
 
@@ -189,15 +133,13 @@ static void *nothing(void *unused)
 
 static void *decode(void *unused)
 {
-    dowringaf_data_object(file, count, SUPERBLOCK, 8, 8, count, table, table_words, chunks,
-                          DOWRINGAF_CHUNK_WORDS, &object);
+    dowringaf_data_object(file, count, SUPERBLOCK, 8, 8, count, table, table_words, &object);
     return unused;
 }
 
 static void *decode_root(void *unused)
 {
-    dowringaf_root_object(file, count, table, table_words, chunks, DOWRINGAF_CHUNK_WORDS,
-                          &root_object);
+    dowringaf_root_object(file, count, table, table_words, &root_object);
     return unused;
 }
 
@@ -252,31 +194,25 @@ static size_t written(void *(*run)(void *))
     return STACK - i;
 }
 
-/* Read with a row for the layout and one for the type, or refused. */
-static int is_reached(const struct deepest *d, uint64_t refused, uint64_t entries, uint64_t rows)
+/* Read with one row, or refused for its types. */
+static int is_deepest(int levels, uint64_t refused, uint64_t entries, uint64_t rows)
 {
-    if (d->refused != 0) {
-        return refused == d->refused;
+    if (levels > MOST_TYPES) {
+        return refused == DOWRINGAF_TYPE_LEVEL;
     }
-    return refused == 0 && entries == BLOCKS + 2 && rows == 2;
-}
-
-static int is_filled(const struct deepest *d, const dowringaf_object *o)
-{
-    return is_reached(d, o->refused, o->entries, o->rows) && o->chunks == (d->refused == 0);
-}
-
-static int is_checked(const struct deepest *d, const dowringaf_checked *c)
-{
-    return is_reached(d, c->refused, c->entries, c->rows);
+    return refused == 0 && entries == BLOCKS + 1 && rows == 1;
 }
 
 /* Whether every call reached the deepest place, and names were looked up. */
-static int all_reached(const struct deepest *d)
+static int all_reached(int levels)
 {
-    return is_filled(d, &object) && is_filled(d, &root_object) && is_checked(d, &checked) &&
-           is_checked(d, &checked_root) && listed != 0 &&
-           memcmp(out, d->listing, strlen(d->listing)) == 0 && names_refused == 0;
+    const char *line = levels > MOST_TYPES ? "refused,22" : "0,3,";
+
+    return is_deepest(levels, object.refused, object.entries, object.rows) &&
+           is_deepest(levels, root_object.refused, root_object.entries, root_object.rows) &&
+           is_deepest(levels, checked.refused, checked.entries, checked.rows) &&
+           is_deepest(levels, checked_root.refused, checked_root.entries, checked_root.rows) &&
+           listed != 0 && memcmp(out, line, strlen(line)) == 0 && names_refused == 0;
 }
 
 /* What a call uses, of some bytes that it may; yields 0 where it uses more. */
@@ -288,20 +224,20 @@ static int stays_below(const char *name, void *(*run)(void *), size_t none, size
     return used <= most;
 }
 
-/* The calls on a header. */
-static int all_stay_below(const struct deepest *d, size_t none)
+/* The calls on a header with as many levels of types. */
+static int all_stay_below(int levels, size_t none)
 {
     int below = 1;
 
-    write_deepest(d);
-    printf("stack: %s\n", d->name);
+    write_deepest(levels);
+    printf("stack: %d levels of types\n", levels);
     below &= stays_below("decoding", decode, none, DOWRINGAF_DECODING_STACK);
     below &= stays_below("root", decode_root, none, DOWRINGAF_DECODING_STACK);
     below &= stays_below("check", check, none, DOWRINGAF_DECODING_STACK);
     below &= stays_below("check of the root", check_root, none, DOWRINGAF_DECODING_STACK);
     below &= stays_below("names", look_up_names, none, DOWRINGAF_DECODING_STACK);
     below &= stays_below("listing", list, none, DOWRINGAF_LISTING_STACK);
-    if (!all_reached(d)) {
+    if (!all_reached(levels)) {
         puts("the deepest place is not reached");
         return 0;
     }
@@ -311,11 +247,8 @@ static int all_stay_below(const struct deepest *d, size_t none)
 int main(void)
 {
     size_t none = written(nothing);
-    int below = 1;
-    int i;
+    int below = all_stay_below(MOST_TYPES, none);
 
-    for (i = 0; i < DEEPEST; i++) {
-        below &= all_stay_below(&deepest[i], none);
-    }
+    below &= all_stay_below(MOST_TYPES + 1, none);
     return below ? 0 : 1;
 }

@@ -32,7 +32,7 @@ HAS_WORDS(dowringaf_link_info, 10);
 HAS_WORDS(dowringaf_group_info, 9);
 HAS_WORDS(dowringaf_attribute_info, 8);
 HAS_WORDS(dowringaf_part, 2);
-HAS_WORDS(dowringaf_layout, 6);
+HAS_WORDS(dowringaf_layout, 5);
 HAS_WORDS(dowringaf_object, DOWRINGAF_OBJECT_WORDS);
 HAS_WORDS(dowringaf_checked, 4);
 HAS_WORDS(dowringaf_found, 3);
@@ -61,8 +61,6 @@ BEGINS_AT(group_info, group_info, 43);
 BEGINS_AT(attribute_info, attribute_info, 52);
 BEGINS_AT(layout, layout, 60);
 BEGINS_AT(data, layout.data, 63);
-BEGINS_AT(dimensionality, layout.dimensionality, 65);
-BEGINS_AT(chunks, chunks, 66);
 
 static unsigned long compared = 0;
 static unsigned long failed = 0;
@@ -126,7 +124,7 @@ static dowringaf_object *object_of_ones(void)
 
 /* A file that is written from its start on. */
 struct writer {
-    uint8_t bytes[32768];
+    uint8_t bytes[1024];
     size_t count;
 };
 
@@ -475,27 +473,13 @@ static void compare_infos(const dowringaf_object *o)
     IS(o->attribute_info.attribute_creation_order_btree.number, 0x9192939495969798u);
 }
 
-static void compare_layouts(const dowringaf_object *o, uint64_t data)
+static void compare_layouts(const dowringaf_layout *l, uint64_t data)
 {
-    const dowringaf_layout *l = &o->layout;
-
     IS(l->address.present, 1);
     IS(l->address.undefined, 0);
     IS(l->address.number, data);
     IS(l->data.position, data);
     IS(l->data.length, 9);
-    IS(l->dimensionality, 0);
-    IS(o->chunks, 0);
-}
-
-/* The words of a table from one on. */
-static void compare_zeros(const uint64_t *table, size_t from, size_t words)
-{
-    size_t i;
-
-    for (i = from; i < words; i++) {
-        IS(table[i], 0);
-    }
 }
 
 /* The sizes of the full header's messages. */
@@ -526,7 +510,9 @@ static void compare_rows(const uint64_t *table, size_t words, const struct place
         IS(row[DOWRINGAF_ROW_NUMBER], DOWRINGAF_NUMBER_NONE);
         IS(row[DOWRINGAF_ROW_NUMBER_BITS], 0);
     }
-    compare_zeros(table, MESSAGES * DOWRINGAF_ROW_WORDS, words);
+    for (i = MESSAGES * DOWRINGAF_ROW_WORDS; i < words; i++) {
+        IS(table[i], 0);
+    }
 }
 
 static void look_up(const uint8_t *file, size_t bytes, const uint64_t *table, size_t words,
@@ -552,38 +538,9 @@ static void compare_refused(const dowringaf_object *o, const uint64_t *table, si
     for (i = 1; i < sizeof all / sizeof all[0]; i++) {
         IS(all[i], i == ELEMENTS ? 1 : 0);
     }
-    compare_zeros(table, 0, words);
-}
-
-/* Chunk rows that are lent where they are not what is tried, and words that make no row. */
-enum { CHUNKS_LENT = 3 * DOWRINGAF_CHUNK_WORDS + 3 };
-
-/* What is not filled of such a table is zero. Takes the table back. */
-static void compare_unfilled(uint64_t *chunks, const dowringaf_object *o)
-{
-    compare_zeros(chunks, (size_t)o->chunks * DOWRINGAF_CHUNK_WORDS, CHUNKS_LENT);
-    free(chunks);
-}
-
-/* The two fillings, with a chunk table lent. */
-static void fill_at(const uint8_t *file, size_t bytes, uint64_t position, uint64_t offset_width,
-                    uint64_t length_width, uint64_t end, uint64_t *table, size_t words,
-                    dowringaf_object *o)
-{
-    uint64_t *chunks = ones(CHUNKS_LENT);
-
-    dowringaf_data_object(file, bytes, position, offset_width, length_width, end, table, words,
-                          chunks, CHUNKS_LENT, o);
-    compare_unfilled(chunks, o);
-}
-
-static void fill_root(const uint8_t *file, size_t bytes, uint64_t *table, size_t words,
-                      dowringaf_object *o)
-{
-    uint64_t *chunks = ones(CHUNKS_LENT);
-
-    dowringaf_root_object(file, bytes, table, words, chunks, CHUNKS_LENT, o);
-    compare_unfilled(chunks, o);
+    for (i = 0; i < words; i++) {
+        IS(table[i], 0);
+    }
 }
 
 /* A header in a file, as both operations are given it. */
@@ -661,8 +618,8 @@ static void check_is(const struct header *h, dowringaf_checked expected)
 
 static void fill(const struct header *h, uint64_t *table, size_t words, dowringaf_object *o)
 {
-    fill_at(h->file, h->bytes, h->position, h->offset_width, h->length_width, h->end, table, words,
-            o);
+    dowringaf_data_object(h->file, h->bytes, h->position, h->offset_width, h->length_width, h->end,
+                          table, words, o);
 }
 
 /* The filling alone, of a table of some words. What it does not fill is zero. */
@@ -670,10 +627,13 @@ static void filling_is(const struct header *h, size_t words, dowringaf_checked e
 {
     uint64_t *table = ones(words);
     dowringaf_object *o = object_of_ones();
+    size_t i;
 
     fill(h, table, words, o);
     compare_checked(checked_of(o), expected);
-    compare_zeros(table, (size_t)expected.rows * DOWRINGAF_ROW_WORDS, words);
+    for (i = expected.rows * DOWRINGAF_ROW_WORDS; i < words; i++) {
+        IS(table[i], 0);
+    }
     if (expected.refused != 0) {
         compare_refused(o, NULL, 0);
     }
@@ -744,7 +704,7 @@ static void test_full(void)
     file = copy(w.bytes, w.count);
     h = header_at(file, w.count, HEADER_FROM, w.count);
     pair_is(&h, passed_with(p.next, MESSAGES, MESSAGES), MESSAGES);
-    fill_at(file, w.count, HEADER_FROM, OFFSET, LENGTH, w.count, table, words, o);
+    dowringaf_data_object(file, w.count, HEADER_FROM, OFFSET, LENGTH, w.count, table, words, o);
     IS(o->refused, 0);
     IS(o->next, p.next);
     IS(o->entries, MESSAGES);
@@ -752,7 +712,7 @@ static void test_full(void)
     compare_spaces(&o->dataspace);
     compare_types(&o->datatype);
     compare_infos(o);
-    compare_layouts(o, p.data);
+    compare_layouts(&o->layout, p.data);
     compare_rows(table, words, &p);
     look_up(file, w.count, table, words, MESSAGES, "Unit", 0, 1, 5);
     look_up(file, w.count, table, words, MESSAGES, "Units", 0, 0, 0);
@@ -847,19 +807,7 @@ static void test_messages(void)
     refuse_entry(3, 0, "\30", 1, DOWRINGAF_DATATYPE);
     refuse_entry(5, 0, "\4", 1, DOWRINGAF_FILL);
     refuse_entry(8, 0, "\2", 1, DOWRINGAF_LAYOUT);
-    refuse_entry(8, 0, "\3\3", 2, DOWRINGAF_LAYOUT);
-    refuse_entry(8, 0, "\3\2", 2, DOWRINGAF_LAYOUT);
-    refuse_entry(8, 0, "\3\2\6", 3, DOWRINGAF_LAYOUT);
-    /* A tree that begins in the layout's sizes: without a mark, of another type, its own child. */
-    refuse_entry(8, 0, "\3\2\1\26\0\0\0\0\0\0\0TREF\1", 16, DOWRINGAF_TREE_NODE);
-    refuse_entry(8, 0, "\3\2\1\26\0\0\0\0\0\0\0TREE", 15, DOWRINGAF_TREE_NODE);
-    refuse_entry(8, 0,
-                 "\3\2\1\26\0\0\0\0\0\0\0TREE\1\1\1\0"
-                 "\0\0\0\0\0\0\0\0\0\0\0\0\0\0\0\0"
-                 "\0\0\0\0\0\0\0\0\0\0\0\0\0\0\0\0\26",
-                 52, DOWRINGAF_TREE_LEVEL);
-    /* A chunk at 0. */
-    refuse_entry(8, 0, "\3\2\1\26\0\0\0\0\0\0\0TREE\1\0\1", 18, DOWRINGAF_TREE_NODE);
+    refuse_entry(8, 0, "\3\2", 2, DOWRINGAF_CHUNKED);
     refuse_entry(10, 0, "\1", 1, DOWRINGAF_GROUP_INFO);
     refuse_entry(11, 0, "\3", 1, DOWRINGAF_FILTER_PIPELINE);
     refuse_entry(12, 0, "\2", 1, DOWRINGAF_ATTRIBUTE);
@@ -1007,16 +955,6 @@ static void test_block(void)
     free(o);
 }
 
-/* Two objects, word for word. */
-static void compare_objects(const dowringaf_object *got, const dowringaf_object *expected)
-{
-    size_t i;
-
-    for (i = 0; i < DOWRINGAF_OBJECT_WORDS; i++) {
-        IS(((const uint64_t *)got)[i], ((const uint64_t *)expected)[i]);
-    }
-}
-
 /* The header at a position, word for word. */
 static void object_is(const uint8_t *bytes, size_t n, uint64_t position, int width, uint64_t end,
                       const dowringaf_object *expected)
@@ -1025,11 +963,14 @@ static void object_is(const uint8_t *bytes, size_t n, uint64_t position, int wid
     uint64_t *table = ones(LENT);
     dowringaf_object *o = object_of_ones();
     struct header h = header_at(file, n, position, end);
+    size_t i;
 
     h.offset_width = (uint64_t)width;
     pair_is(&h, checked_of(expected), expected->rows);
     fill(&h, table, LENT, o);
-    compare_objects(o, expected);
+    for (i = 0; i < sizeof *o / sizeof(uint64_t); i++) {
+        IS(((const uint64_t *)o)[i], ((const uint64_t *)expected)[i]);
+    }
     free(file);
     free(table);
     free(o);
@@ -1161,7 +1102,6 @@ static void test_absent_addresses(void)
     static const uint64_t undefined[2] = {UINT64_MAX, UINT64_MAX};
     struct writer w;
     dowringaf_object o;
-    uint64_t position;
     int width;
 
     for (width = 2; width <= 8; width++) {
@@ -1176,7 +1116,6 @@ static void test_absent_addresses(void)
         entry(&w, 8, 12, 0);
         put(&w, 3, 2);
         put(&w, 8, 2);
-        position = w.count;
         put_numbers(&w, undefined, 1, 8);
         end_header(&w);
         o = read_messages(&w, 4);
@@ -1184,8 +1123,6 @@ static void test_absent_addresses(void)
         o.link_info.address_btree_index.undefined = 1;
         o.attribute_info.fractal_heap_address.undefined = 1;
         o.attribute_info.attribute_name_btree.undefined = 1;
-        o.layout.data.position = position;
-        o.layout.data.length = 8;
         object_is(w.bytes, w.count, 0, width, UINT64_MAX, &o);
     }
 }
@@ -1420,7 +1357,7 @@ static void size_is(const uint8_t *file, size_t bytes, uint64_t next, uint64_t r
                                                 h.length_width, h.end), expected);
     compare_checked(dowringaf_check_root_object(file, bytes), expected);
     filling_is(&h, LENT, expected);
-    fill_root(file, bytes, table, LENT, o);
+    dowringaf_root_object(file, bytes, table, LENT, o);
     compare_checked(checked_of(o), expected);
     h.offset_width = 9;
     filling_is(&h, LENT, refused_with(DOWRINGAF_WIDTH));
@@ -1480,7 +1417,7 @@ static void refuse_root(const uint8_t *bytes, size_t n, uint64_t number)
     char listing[32];
 
     compare_checked(dowringaf_check_root_object(file, n), refused_with(number));
-    fill_root(file, n, table, LENT, o);
+    dowringaf_root_object(file, n, table, LENT, o);
     IS(o->refused, number);
     compare_refused(o, table, LENT);
     sprintf(listing, "refused,%llu\n", (unsigned long long)number);
@@ -1663,14 +1600,16 @@ static void root_is_by_hand(const struct writer *w, size_t n, uint64_t end, size
     size_t i;
 
     check_is(&h, checked);
-    fill_root(file, n, root_table, words, root);
+    dowringaf_root_object(file, n, root_table, words, root);
     if (words / DOWRINGAF_ROW_WORDS < checked.rows) {
         checked = refused_with(DOWRINGAF_TABLE);
     }
     compare_checked(checked_of(root), checked);
-    fill_at(file, n, HEADER_FROM, OFFSET, LENGTH, end, table, words, o);
+    dowringaf_data_object(file, n, HEADER_FROM, OFFSET, LENGTH, end, table, words, o);
     IS(root->rows, rows);
-    compare_objects(root, o);
+    for (i = 0; i < sizeof *o / sizeof(uint64_t); i++) {
+        IS(((uint64_t *)root)[i], ((uint64_t *)o)[i]);
+    }
     for (i = 0; i < words; i++) {
         IS(root_table[i], table[i]);
     }
@@ -1707,7 +1646,7 @@ static void test_root(void)
     write_undefined(&w, &p);
     root_is_by_hand(&w, w.count, w.count, LENT, MESSAGES);
     compare_checked(dowringaf_check_root_object(NULL, 0), refused_with(DOWRINGAF_SHORT));
-    dowringaf_root_object(NULL, 0, NULL, 0, NULL, 0, o);
+    dowringaf_root_object(NULL, 0, NULL, 0, o);
     IS(o->refused, DOWRINGAF_SHORT);
     compare_refused(o, NULL, 0);
     free(o);
@@ -1734,7 +1673,7 @@ static void far_root_is(uint64_t root, int width, uint64_t refused)
     uint64_t *table = ones(LENT);
     dowringaf_object *o = object_of_ones();
 
-    fill_root(file, FAR_BYTES, table, LENT, o);
+    dowringaf_root_object(file, FAR_BYTES, table, LENT, o);
     IS(o->refused, refused);
     IS(o->next, refused == 0 ? root + 11 : 0);
     compare_checked(dowringaf_check_root_object(file, FAR_BYTES),
@@ -3430,934 +3369,11 @@ static void test_names(void)
     test_random_names();
 }
 
-/* A header of compact data, and their row and bytes; the end-of-file address plays no part. */
-static void compact_are(uint64_t size, int width)
-{
-    uint64_t expected[DOWRINGAF_ROW_WORDS] = {8, 0};
-    struct writer w;
-    dowringaf_object o;
-    size_t body;
-    size_t data;
-    uint64_t i;
-
-    begin_root(&w);
-    body = entry(&w, 8, 4 + (int)size, 0);
-    put(&w, 3, 2);
-    put(&w, size, 2);
-    data = w.count;
-    for (i = 0; i < size; i++) {
-        put(&w, i, 1);
-    }
-    end_root(&w);
-    write_front(&w, UINT64_MAX, w.count);
-    o = read_messages(&w, 1);
-    o.layout.data.position = size == 0 ? 0 : data;
-    o.layout.data.length = size;
-    object_is(w.bytes, w.count, HEADER_FROM, width, 0, &o);
-    object_is(w.bytes, w.count, HEADER_FROM, width, UINT64_MAX, &o);
-    expected[DOWRINGAF_ROW_SIZE] = 4 + size;
-    expected[DOWRINGAF_ROW_BODY] = body;
-    expected[DOWRINGAF_ROW_PART] = 1;
-    expected[DOWRINGAF_ROW_PART_POSITION] = o.layout.data.position;
-    expected[DOWRINGAF_ROW_PART_LENGTH] = size;
-    rows_are(&w, w.count, HEADER_FROM, w.count, expected, 1);
-    if (size != 0) {
-        refuse_below(w.bytes, data + size - 1, HEADER_FROM, (uint64_t)width, 0, LENT,
-                     DOWRINGAF_SHORT);
-    }
-}
-
-static void test_compact(void)
-{
-    static const uint64_t sizes[6] = {0, 1, 2, 9, 255, 300};
-    int width;
-    int i;
-
-    for (width = 2; width <= 8; width++) {
-        for (i = 0; i < 6; i++) {
-            compact_are(sizes[i], width);
-        }
-    }
-}
-
-/*
- * Chunks. The root's header of a file has the layouts, and behind it stand the trees, whose
- * addresses are told when they are written; until then they are undefined.
- */
-static size_t put_chunked(struct writer *w, int dimensions, int width)
-{
-    size_t body = entry(w, 8, 0, 0);
-
-    put(w, 3, 1);
-    put(w, 2, 1);
-    put(w, (uint64_t)dimensions, 1);
-    put(w, most(width), width);
-    put(w, UINT64_MAX, 4 * dimensions);
-    end_entry(w, body);
-    return body + 3;
-}
-
-static void write_at(struct writer *w, size_t at, uint64_t number, int width)
-{
-    size_t count = w->count;
-
-    w->count = at;
-    put(w, number, width);
-    w->count = count;
-}
-
-/* Tells the address that stands at a place in the root's header, which ends somewhere. */
-static void lead(struct writer *w, size_t at, uint64_t address, int width, size_t next)
-{
-    write_at(w, at, address, width);
-    make_true(w->bytes, HEADER_FROM, next - 4);
-}
-
-/* The figures of a key, by a number: each has a value of its own, up to its highest byte. */
-static uint64_t stored_size_of(uint64_t number)
-{
-    return 0xC1C20000u + number;
-}
-
-static uint64_t filter_mask_of(uint64_t number)
-{
-    return 0xD1D20000u + number;
-}
-
-static uint64_t offset_of(uint64_t number, int dimension)
-{
-    return 0xE1E2E3E400000000u + number * 8 + (uint64_t)dimension;
-}
-
-static void put_key(struct writer *w, uint64_t number, int dimensions)
-{
-    int i;
-
-    put(w, stored_size_of(number), 4);
-    put(w, filter_mask_of(number), 4);
-    for (i = 0; i < dimensions; i++) {
-        put(w, offset_of(number, i), 8);
-    }
-}
-
-/* A key and an address; yields where the address stands. */
-static size_t put_keyed(struct writer *w, uint64_t number, uint64_t address, int dimensions,
-                        int width)
-{
-    put_key(w, number, dimensions);
-    put(w, address, width);
-    return w->count - (size_t)width;
-}
-
-/* A node up to its keys. One sibling is undefined, and the other leads nowhere. */
-static void put_node(struct writer *w, int level, int entries, int width)
-{
-    put_text(w, "TREE");
-    put(w, 1, 1);
-    put(w, (uint64_t)level, 1);
-    put(w, (uint64_t)entries, 2);
-    put(w, most(width), width);
-    put(w, 0, width);
-}
-
-/* The chunks of a tree: the least address, the greatest below end-of-file, and one between. */
-enum { TREE_NODES = 3, TREE_CHUNKS = 3, TREE_END = 1000 };
-static const uint64_t tree_chunks[TREE_CHUNKS] = {1, TREE_END - 1, 77};
-
-/* Where the nodes of a tree begin, and where the addresses of its leaves and chunks stand. */
-struct tree {
-    size_t nodes[TREE_NODES];
-    size_t leaves[2];
-    size_t chunks[TREE_CHUNKS];
-};
-
-/* A tree of two levels, with two chunks in the first leaf and one in the other. */
-static struct tree put_tree(struct writer *w, int dimensions, int width)
-{
-    struct tree t;
-
-    t.nodes[0] = w->count;
-    put_node(w, 1, 2, width);
-    t.leaves[0] = put_keyed(w, 50, 0, dimensions, width);
-    t.leaves[1] = put_keyed(w, 51, 0, dimensions, width);
-    put_key(w, 52, dimensions);
-    t.nodes[1] = w->count;
-    put_node(w, 0, 2, width);
-    t.chunks[0] = put_keyed(w, 0, tree_chunks[0], dimensions, width);
-    t.chunks[1] = put_keyed(w, 1, tree_chunks[1], dimensions, width);
-    put_key(w, 53, dimensions);
-    t.nodes[2] = w->count;
-    put_node(w, 0, 1, width);
-    t.chunks[2] = put_keyed(w, 2, tree_chunks[2], dimensions, width);
-    put_key(w, 54, dimensions);
-    write_at(w, t.leaves[0], t.nodes[1], width);
-    write_at(w, t.leaves[1], t.nodes[2], width);
-    return t;
-}
-
-/* A file with two layouts, the first of one dimension and without a tree. */
-struct chunked {
-    struct writer w;
-    struct tree tree;
-    size_t addresses[2];
-    size_t next;
-    int dimensions;
-    int width;
-};
-
-static void write_layouts(struct chunked *c, int dimensions, int width)
-{
-    struct writer *w = &c->w;
-
-    c->dimensions = dimensions;
-    c->width = width;
-    begin_root(w);
-    c->addresses[0] = put_chunked(w, 1, width);
-    c->addresses[1] = put_chunked(w, dimensions, width);
-    end_root(w);
-    c->next = w->count;
-    c->tree = put_tree(w, dimensions, width);
-    lead(w, c->addresses[1], c->tree.nodes[0], width, c->next);
-    write_front(w, UINT64_MAX, TREE_END);
-}
-
-/* Its header, in a file of its own of some bytes. */
-static struct header header_of(const struct chunked *c, const uint8_t *file, size_t bytes)
-{
-    struct header h = header_at(file, bytes, HEADER_FROM, TREE_END);
-
-    h.offset_width = (uint64_t)c->width;
-    return h;
-}
-
-/* What a filling hands over: two tables and an object, which held ones before. */
-struct handed {
-    uint64_t *table;
-    size_t words;
-    uint64_t *chunks;
-    size_t chunk_words;
-    dowringaf_object *o;
-};
-
-static struct handed lend(size_t words, size_t chunk_words)
-{
-    struct handed f;
-
-    f.table = ones(words);
-    f.words = words;
-    f.chunks = ones(chunk_words);
-    f.chunk_words = chunk_words;
-    f.o = object_of_ones();
-    return f;
-}
-
-static struct handed fill_both(const struct header *h, size_t words, size_t chunk_words)
-{
-    struct handed f = lend(words, chunk_words);
-
-    dowringaf_data_object(h->file, h->bytes, h->position, h->offset_width, h->length_width, h->end,
-                          f.table, words, f.chunks, chunk_words, f.o);
-    return f;
-}
-
-static void take_back(struct handed *f)
-{
-    free(f->table);
-    free(f->chunks);
-    free(f->o);
-}
-
-/* A refusal leaves both tables zero. */
-static void compare_both_refused(const struct handed *f, uint64_t number)
-{
-    IS(f->o->refused, number);
-    compare_refused(f->o, f->table, f->words);
-    compare_zeros(f->chunks, 0, f->chunk_words);
-}
-
-/* A row of the chunk table, by the number of its key. */
-static void compare_chunk(const uint64_t *row, uint64_t number, uint64_t address, int dimensions)
-{
-    int i;
-
-    IS(row[DOWRINGAF_CHUNK_ADDRESS], address);
-    IS(row[DOWRINGAF_CHUNK_STORED_SIZE], stored_size_of(number));
-    IS(row[DOWRINGAF_CHUNK_FILTER_MASK], filter_mask_of(number));
-    for (i = 0; i < 5; i++) {
-        IS(row[DOWRINGAF_CHUNK_OFFSETS + i], i < dimensions ? offset_of(number, i) : 0);
-    }
-}
-
-/* The list of the tree, and zeros after it. */
-static void compare_tree_chunks(const uint64_t *chunks, size_t words, int dimensions)
-{
-    size_t i;
-
-    for (i = 0; i < TREE_CHUNKS; i++) {
-        compare_chunk(chunks + i * DOWRINGAF_CHUNK_WORDS, i, tree_chunks[i], dimensions);
-    }
-    compare_zeros(chunks, TREE_CHUNKS * DOWRINGAF_CHUNK_WORDS, words);
-}
-
-/* What is read of a header with so many chunked layouts, the last of which has a tree. */
-static dowringaf_object chunked_object(uint64_t next, uint64_t rows, uint64_t tree, int dimensions,
-                                       uint64_t chunks)
-{
-    dowringaf_object o = no_records();
-
-    o.next = next;
-    o.entries = rows;
-    o.rows = rows;
-    o.layout.address.present = 1;
-    o.layout.address.number = tree;
-    o.layout.dimensionality = (uint64_t)dimensions;
-    o.chunks = chunks;
-    return o;
-}
-
-/* The row of a chunked layout has no part. */
-static void compare_chunked_row(const uint64_t *row, const struct chunked *c, int which)
-{
-    int dimensions = which == 0 ? 1 : c->dimensions;
-
-    IS(row[DOWRINGAF_ROW_TYPE], 8);
-    IS(row[DOWRINGAF_ROW_FLAGS], 0);
-    IS(row[DOWRINGAF_ROW_SIZE], (uint64_t)(3 + c->width + 4 * dimensions));
-    IS(row[DOWRINGAF_ROW_BODY], c->addresses[which] - 3);
-    compare_zeros(row, DOWRINGAF_ROW_NAME, DOWRINGAF_ROW_WORDS);
-}
-
-static void compare_both_read(const struct handed *f, const struct chunked *c)
-{
-    dowringaf_object o = chunked_object(c->next, 2, c->tree.nodes[0], c->dimensions, TREE_CHUNKS);
-
-    compare_objects(f->o, &o);
-    compare_chunked_row(f->table, c, 0);
-    compare_chunked_row(f->table + DOWRINGAF_ROW_WORDS, c, 1);
-    compare_zeros(f->table, 2 * DOWRINGAF_ROW_WORDS, f->words);
-    compare_tree_chunks(f->chunks, f->chunk_words, c->dimensions);
-}
-
-/* A row is wanted after its layout was read, and a chunk row while it is. */
-static uint64_t refusal_of(size_t rows, size_t chunk_rows)
-{
-    if (rows == 0) {
-        return DOWRINGAF_TABLE;
-    }
-    if (chunk_rows < TREE_CHUNKS) {
-        return DOWRINGAF_CHUNK_ROWS;
-    }
-    return rows == 1 ? DOWRINGAF_TABLE : 0;
-}
-
-enum { TREE_WORDS = TREE_CHUNKS * DOWRINGAF_CHUNK_WORDS };
-
-/* Tables of every size up to some words more than it takes. */
-static void tables_are(const struct chunked *c)
-{
-    uint8_t *file = copy(c->w.bytes, c->w.count);
-    struct header h = header_of(c, file, c->w.count);
-    size_t chunk_words;
-    size_t rows;
-
-    check_is(&h, passed_with(c->next, 2, 2));
-    for (chunk_words = 0; chunk_words <= TREE_WORDS + 9; chunk_words++) {
-        for (rows = 0; rows <= 2; rows++) {
-            struct handed f = fill_both(&h, rows * DOWRINGAF_ROW_WORDS + 3, chunk_words);
-            uint64_t refused = refusal_of(rows, chunk_words / DOWRINGAF_CHUNK_WORDS);
-
-            if (refused != 0) {
-                compare_both_refused(&f, refused);
-            } else {
-                compare_both_read(&f, c);
-            }
-            take_back(&f);
-        }
-    }
-    free(file);
-}
-
-/*
- * Every cut of the file, with every number of chunk rows: the chunk that has none is refused as
- * soon as its address is there, and before what follows it.
- */
-static void cuts_are(const struct chunked *c)
-{
-    size_t n;
-    size_t rows;
-
-    for (n = 0; n < c->w.count; n++) {
-        uint8_t *file = copy(c->w.bytes, n);
-        struct header h = header_of(c, file, n);
-
-        check_is(&h, refused_with(DOWRINGAF_SHORT));
-        for (rows = 0; rows <= TREE_CHUNKS; rows++) {
-            struct handed f = fill_both(&h, LENT, rows * DOWRINGAF_CHUNK_WORDS);
-            int is_wanted = rows < TREE_CHUNKS && c->tree.chunks[rows] + (size_t)c->width <= n;
-
-            compare_both_refused(&f, is_wanted ? DOWRINGAF_CHUNK_ROWS : DOWRINGAF_SHORT);
-            take_back(&f);
-        }
-        free(file);
-    }
-}
-
-/* Of every number of dimensions, at every width. */
-static void test_trees(void)
-{
-    struct chunked c;
-    int dimensions;
-    int width;
-
-    for (width = 2; width <= 8; width++) {
-        for (dimensions = 1; dimensions <= 5; dimensions++) {
-            write_layouts(&c, dimensions, width);
-            tables_are(&c);
-        }
-        write_layouts(&c, 1 + width % 5, width);
-        cuts_are(&c);
-    }
-}
-
-static void refuse_tree(const struct chunked *c, size_t bytes, uint64_t number)
-{
-    refuse_below(c->w.bytes, bytes, HEADER_FROM, (uint64_t)c->width, TREE_END, LENT, number);
-}
-
-/*
- * The fields of a leaf are tested as they are read: from the last one on, each is made wrong beside
- * those after it, and counts as soon as its last byte is there.
- */
-static void test_node_order(void)
-{
-    static const struct {
-        size_t at;
-        size_t end;
-        uint64_t wrong;
-        uint64_t number;
-    } fields[4] = {
-        {6, 8, 0, DOWRINGAF_TREE_NODE},
-        {5, 6, 1, DOWRINGAF_TREE_LEVEL},
-        {4, 5, 0, DOWRINGAF_TREE_NODE},
-        {0, 4, 0x65656574, DOWRINGAF_TREE_NODE},
-    };
-    struct chunked c;
-    size_t node;
-    size_t i;
-
-    for (node = 1; node < TREE_NODES; node++) {
-        write_layouts(&c, 2, OFFSET);
-        for (i = 0; i < 4; i++) {
-            size_t from = c.tree.nodes[node];
-
-            write_at(&c.w, from + fields[i].at, fields[i].wrong,
-                     (int)(fields[i].end - fields[i].at));
-            refuse_tree(&c, c.w.count, fields[i].number);
-            refuse_tree(&c, from + fields[i].end, fields[i].number);
-            refuse_tree(&c, from + fields[i].end - 1, DOWRINGAF_SHORT);
-        }
-    }
-}
-
-/* Every byte of a mark, every other type, and every other level. */
-static void test_nodes(void)
-{
-    struct chunked c;
-    size_t node;
-    int i;
-
-    for (node = 0; node < TREE_NODES; node++) {
-        for (i = 0; i < 32; i++) {
-            write_layouts(&c, 1, 4);
-            c.w.bytes[c.tree.nodes[node] + (size_t)i / 8] ^= (uint8_t)(1 << i % 8);
-            refuse_tree(&c, c.w.count, DOWRINGAF_TREE_NODE);
-        }
-        for (i = 0; i < 256; i++) {
-            write_layouts(&c, 1, 4);
-            write_at(&c.w, c.tree.nodes[node] + 4, (uint64_t)i, 1);
-            if (i != 1) {
-                refuse_tree(&c, c.w.count, DOWRINGAF_TREE_NODE);
-            }
-            write_at(&c.w, c.tree.nodes[node] + 4, 1, 1);
-            write_at(&c.w, c.tree.nodes[node] + 5, (uint64_t)i, 1);
-            if (i != 0 && (node != 0 || i != 1)) {
-                refuse_tree(&c, c.w.count, DOWRINGAF_TREE_LEVEL);
-            }
-        }
-    }
-}
-
-/*
- * The address of a leaf or of a chunk; where it is undefined, whatever the end-of-file address. It
- * counts as soon as it is there, but for that of the second leaf: the first one is read before it,
- * and stands behind it.
- */
-static void refuse_address(struct chunked *c, size_t at)
-{
-    uint64_t stored[4] = {0, TREE_END, TREE_END + 1, most(c->width)};
-    uint64_t cut = at == c->tree.leaves[1] ? DOWRINGAF_SHORT : DOWRINGAF_TREE_NODE;
-    int i;
-
-    for (i = 0; i < 4; i++) {
-        write_at(&c->w, at, stored[i], c->width);
-        refuse_tree(c, c->w.count, DOWRINGAF_TREE_NODE);
-        refuse_tree(c, at + (size_t)c->width, cut);
-        refuse_tree(c, at + (size_t)c->width - 1, DOWRINGAF_SHORT);
-    }
-    refuse_below(c->w.bytes, c->w.count, HEADER_FROM, (uint64_t)c->width, UINT64_MAX, LENT,
-                 DOWRINGAF_TREE_NODE);
-}
-
-/* A leaf that lies past the file is not there. */
-static void test_tree_addresses(void)
-{
-    struct chunked c;
-    int width;
-    int i;
-
-    for (width = 2; width <= 8; width++) {
-        for (i = 0; i < TREE_CHUNKS; i++) {
-            write_layouts(&c, 3, width);
-            refuse_address(&c, c.tree.chunks[i]);
-        }
-        for (i = 0; i < 2; i++) {
-            write_layouts(&c, 3, width);
-            refuse_address(&c, c.tree.leaves[i]);
-            write_at(&c.w, c.tree.leaves[i], TREE_END - 1, width);
-            refuse_tree(&c, c.w.count, DOWRINGAF_SHORT);
-        }
-    }
-}
-
-/* A layout without chunks takes no chunk row. */
-static void no_chunks_are(const struct chunked *c, uint64_t address)
-{
-    uint8_t *file = copy(c->w.bytes, c->w.count);
-    struct header h = header_of(c, file, c->w.count);
-    dowringaf_object o = chunked_object(c->next, 2, 0, c->dimensions, 0);
-    struct handed f = fill_both(&h, LENT, 0);
-
-    o.layout.address = present_address_of(address, c->width);
-    compare_objects(f.o, &o);
-    take_back(&f);
-    object_is(file, c->w.count, HEADER_FROM, c->width, TREE_END, &o);
-    free(file);
-}
-
-/* A root at no address of the file, one past the file, and one without entries, on any level. */
-static void test_tree_roots(void)
-{
-    struct chunked c;
-    int width;
-    int i;
-
-    for (width = 2; width <= 8; width++) {
-        uint64_t nowhere[4] = {0, TREE_END, TREE_END + 1, most(width)};
-
-        write_layouts(&c, 4, width);
-        for (i = 0; i < 4; i++) {
-            lead(&c.w, c.addresses[1], nowhere[i], width, c.next);
-            no_chunks_are(&c, nowhere[i]);
-        }
-        lead(&c.w, c.addresses[1], TREE_END - 1, width, c.next);
-        refuse_tree(&c, c.w.count, DOWRINGAF_SHORT);
-        lead(&c.w, c.addresses[1], c.tree.nodes[0], width, c.next);
-        for (i = 0; i < 256; i += 15) {
-            write_at(&c.w, c.tree.nodes[0] + 5, (uint64_t)i, 3);
-            no_chunks_are(&c, c.tree.nodes[0]);
-        }
-        refuse_tree(&c, c.tree.nodes[0] + 8 + 2 * (size_t)width + 8 + 4 * 8 - 1, DOWRINGAF_SHORT);
-    }
-}
-
-/* On level 0 the root is a leaf, and what leads to its nodes are chunks. */
-static void test_root_leaf(void)
-{
-    struct chunked c;
-    struct handed f;
-    struct header h;
-    uint8_t *file;
-    dowringaf_object o;
-    int i;
-
-    write_layouts(&c, 5, OFFSET);
-    write_at(&c.w, c.tree.nodes[0] + 5, 0, 1);
-    file = copy(c.w.bytes, c.w.count);
-    h = header_of(&c, file, c.w.count);
-    f = fill_both(&h, LENT, TREE_WORDS);
-    o = chunked_object(c.next, 2, c.tree.nodes[0], 5, 2);
-    compare_objects(f.o, &o);
-    for (i = 0; i < 2; i++) {
-        compare_chunk(f.chunks + i * DOWRINGAF_CHUNK_WORDS, 50 + (uint64_t)i, c.tree.nodes[1 + i],
-                      5);
-    }
-    compare_zeros(f.chunks, 2 * DOWRINGAF_CHUNK_WORDS, TREE_WORDS);
-    take_back(&f);
-    free(file);
-}
-
-/* What takes the place of the tree of two levels, behind it in the header. */
-enum later { CONTIGUOUS, COMPACT, NOWHERE, WITHOUT_ENTRIES, SHORTER, LATERS };
-
-/* Such a layout, and what is read of it; yields where the address of its tree stands, if any. */
-static size_t put_later(struct writer *w, enum later later, dowringaf_object *o)
-{
-    *o = no_records();
-    if (later == CONTIGUOUS) {
-        put_contiguous(w, 1, 3, OFFSET);
-        o->layout.address.present = 1;
-        o->layout.address.number = 1;
-        o->layout.data.position = 1;
-        o->layout.data.length = 3;
-        return 0;
-    }
-    if (later == COMPACT) {
-        o->layout.data.position = entry(w, 8, 9, 0) + 4;
-        o->layout.data.length = 5;
-        put(w, 3, 2);
-        put(w, 5, 2);
-        put_text(w, "bytes");
-        return 0;
-    }
-    o->layout.address.present = 1;
-    o->layout.address.undefined = later == NOWHERE ? 1 : 0;
-    o->layout.dimensionality = 1;
-    o->chunks = later == SHORTER ? 1 : 0;
-    return put_chunked(w, 1, OFFSET);
-}
-
-/* A file with both, and what is read of it. */
-static void write_later(struct writer *w, enum later later, dowringaf_object *o)
-{
-    size_t first;
-    size_t second;
-
-    begin_root(w);
-    first = put_chunked(w, 5, OFFSET);
-    second = put_later(w, later, o);
-    end_root(w);
-    o->next = w->count;
-    o->entries = 2;
-    o->rows = 2;
-    lead(w, first, put_tree(w, 5, OFFSET).nodes[0], OFFSET, o->next);
-    if (later == SHORTER || later == WITHOUT_ENTRIES) {
-        o->layout.address.number = w->count;
-        lead(w, second, w->count, OFFSET, o->next);
-        put_node(w, 0, later == SHORTER ? 1 : 0, OFFSET);
-    }
-    if (later == SHORTER) {
-        put_keyed(w, 60, 5, 1, OFFSET);
-    }
-    put_key(w, 61, 1);
-    write_front(w, UINT64_MAX, TREE_END);
-}
-
-/* The list begins anew with every layout; but each must fit. */
-static void test_later_layouts(void)
-{
-    int later;
-    size_t rows;
-
-    for (later = 0; later < LATERS; later++) {
-        struct writer w;
-        dowringaf_object o;
-        uint8_t *file;
-        struct header h;
-
-        write_later(&w, (enum later)later, &o);
-        file = copy(w.bytes, w.count);
-        h = header_at(file, w.count, HEADER_FROM, TREE_END);
-        check_is(&h, passed_with(o.next, 2, 2));
-        for (rows = 0; rows < TREE_CHUNKS; rows++) {
-            struct handed f = fill_both(&h, LENT, rows * DOWRINGAF_CHUNK_WORDS);
-
-            compare_both_refused(&f, DOWRINGAF_CHUNK_ROWS);
-            take_back(&f);
-        }
-        object_is(file, w.count, HEADER_FROM, OFFSET, TREE_END, &o);
-        free(file);
-    }
-}
-
-/*
- * A tree with a node on each level, from the root on. Every entry of a node leads to the next, and
- * the entries of the last to chunks. Some nodes have two entries, from the root on, those behind
- * them one, and the last some.
- */
-struct chain {
-    int levels;
-    int doubled;
-    int last;
-};
-
-static int entries_on(const struct chain *c, int level)
-{
-    if (level == 0) {
-        return c->last;
-    }
-    return level > c->levels - 1 - c->doubled ? 2 : 1;
-}
-
-static size_t put_chain(struct writer *w, const struct chain *c)
-{
-    size_t root = w->count;
-    int level;
-    int i;
-
-    for (level = c->levels - 1; level >= 0; level--) {
-        int entries = entries_on(c, level);
-        size_t next = w->count + 8 + 2 * OFFSET + (size_t)entries * (16 + OFFSET) + 16;
-
-        put_node(w, level, entries, OFFSET);
-        for (i = 0; i < entries; i++) {
-            put_keyed(w, (uint64_t)i, level == 0 ? (uint64_t)i + 1 : next, 1, OFFSET);
-        }
-        put_key(w, 99, 1);
-    }
-    return root;
-}
-
-/* How many chunks it leads to; 0 where they are too many to be read. */
-static uint64_t chunks_in(const struct chain *c)
-{
-    return c->doubled < 32 ? (uint64_t)c->last << c->doubled : 0;
-}
-
-enum { MOST_CHAINS = 2 };
-
-/* A file with as many layouts, each of which leads to a chain, and what is read of it. */
-static dowringaf_object write_chains(struct writer *w, const struct chain *chains, int count)
-{
-    size_t addresses[MOST_CHAINS];
-    size_t next;
-    size_t root = 0;
-    int i;
-
-    begin_root(w);
-    for (i = 0; i < count; i++) {
-        addresses[i] = put_chunked(w, 1, OFFSET);
-    }
-    end_root(w);
-    next = w->count;
-    for (i = 0; i < count; i++) {
-        root = put_chain(w, &chains[i]);
-        lead(w, addresses[i], root, OFFSET, next);
-    }
-    write_front(w, UINT64_MAX, w->count);
-    return chunked_object(next, (uint64_t)count, root, 1, chunks_in(&chains[count - 1]));
-}
-
-/* The list of a chain, and zeros after it. */
-static void compare_chain(const struct handed *f, const struct chain *c, uint64_t chunks)
-{
-    uint64_t i;
-
-    for (i = 0; i < chunks; i++) {
-        uint64_t number = i % (uint64_t)c->last;
-
-        compare_chunk(f->chunks + i * DOWRINGAF_CHUNK_WORDS, number, number + 1, 1);
-    }
-    compare_zeros(f->chunks, (size_t)chunks * DOWRINGAF_CHUNK_WORDS, f->chunk_words);
-}
-
-/*
- * Chains, with some chunk rows and words that make none: what the check refuses them for, and what
- * the filling does; 0 where they are read.
- */
-static void chains_are(const struct chain *chains, int count, size_t rows, uint64_t checked,
-                       uint64_t filled)
-{
-    struct writer w;
-    dowringaf_object o = write_chains(&w, chains, count);
-    uint8_t *file = copy(w.bytes, w.count);
-    struct header h = header_at(file, w.count, HEADER_FROM, w.count);
-    struct handed f;
-
-    check_is(&h, checked == 0 ? passed_with(o.next, o.entries, o.rows) : refused_with(checked));
-    f = fill_both(&h, LENT, rows * DOWRINGAF_CHUNK_WORDS + 7);
-    if (filled == 0) {
-        compare_objects(f.o, &o);
-        compare_chain(&f, &chains[count - 1], o.chunks);
-    } else {
-        compare_both_refused(&f, filled);
-    }
-    take_back(&f);
-    free(file);
-}
-
-/* As many levels as there are, and more chunks than nodes. */
-static void test_chains(void)
-{
-    static const struct chain deepest[2] = {{256, 0, 1}, {256, 3, 5}};
-    static const struct chain doubled = {12, 11, 2};
-    static const struct chain two[2] = {{100, 2, 10}, {4, 3, 5}};
-
-    chains_are(&deepest[0], 1, 1, 0, 0);
-    chains_are(&deepest[0], 1, 0, 0, DOWRINGAF_CHUNK_ROWS);
-    chains_are(&deepest[1], 1, 41, 0, 0);
-    chains_are(&deepest[1], 1, 39, 0, DOWRINGAF_CHUNK_ROWS);
-    chains_are(&doubled, 1, 4096, 0, 0);
-    chains_are(&doubled, 1, 4095, 0, DOWRINGAF_CHUNK_ROWS);
-    chains_are(two, 2, 40, 0, 0);
-    chains_are(two, 2, 39, 0, DOWRINGAF_CHUNK_ROWS);
-}
-
-/* The files that are written for others. */
-static void write_chunked(struct writer *w)
-{
-    size_t address;
-    size_t next;
-
-    begin_root(w);
-    address = put_chunked(w, 2, OFFSET);
-    end_root(w);
-    next = w->count;
-    lead(w, address, put_tree(w, 2, OFFSET).nodes[0], OFFSET, next);
-    put(w, 0, TREE_END - (int)w->count);
-    write_front(w, UINT64_MAX, TREE_END);
-}
-
-/* 8,192 chunks, as many as there may be, and more than could be counted. */
-static void write_many_chunks(struct writer *w, int which)
-{
-    static const struct chain many[3] = {{14, 12, 2}, {20, 19, 2}, {201, 200, 1}};
-
-    write_chains(w, &many[which], 1);
-}
-
-/* The root's header in both tables, as by hand. */
-static void test_root_chunks(void)
-{
-    struct writer w;
-    uint8_t *file;
-    struct header h;
-    size_t words;
-
-    write_chunked(&w);
-    file = copy(w.bytes, w.count);
-    h = header_at(file, w.count, HEADER_FROM, TREE_END);
-    for (words = 0; words <= TREE_WORDS + 9; words++) {
-        struct handed by_hand = fill_both(&h, LENT, words);
-        struct handed root = lend(LENT, words);
-
-        dowringaf_root_object(file, w.count, root.table, LENT, root.chunks, words, root.o);
-        compare_objects(root.o, by_hand.o);
-        IS((uint64_t)memcmp(root.table, by_hand.table, LENT * sizeof *root.table), 0);
-        if (words < TREE_WORDS) {
-            compare_both_refused(&root, DOWRINGAF_CHUNK_ROWS);
-        } else {
-            IS(root.o->chunks, TREE_CHUNKS);
-            compare_tree_chunks(root.chunks, words, 2);
-        }
-        take_back(&by_hand);
-        take_back(&root);
-    }
-    compare_checked(dowringaf_check_root_object(file, w.count), passed_with(h.position + 35, 1, 1));
-    free(file);
-}
-
-/* The listing lends 4,096 chunk rows, and lists no chunk. */
-static void test_listed_chunks(void)
-{
-    static const struct chain listed = {3, 2, 1024};
-    static const struct chain too_many = {3, 2, 1025};
-    struct writer w;
-
-    chains_are(&too_many, 1, 4100, 0, 0);
-    write_chunked(&w);
-    listing_is(w.bytes, w.count, "0,8,0,19,63,-,-,-,-\nend,86,1\n");
-    write_chains(&w, &listed, 1);
-    listing_is(w.bytes, w.count, "0,8,0,15,63,-,-,-,-\nend,82,1\n");
-    write_chains(&w, &too_many, 1);
-    listing_is(w.bytes, w.count, "refused,32\n");
-}
-
-static void test_chunks(void)
-{
-    test_trees();
-    test_node_order();
-    test_nodes();
-    test_tree_addresses();
-    test_tree_roots();
-    test_root_leaf();
-    test_later_layouts();
-    test_chains();
-    test_root_chunks();
-    test_listed_chunks();
-}
-
-enum { MOST_CHUNKS = DOWRINGAF_MOST_CHUNKS };
-
-/* As many chunks as a header may have, with as many rows, and with one less. */
-static void test_most_chunks(void)
-{
-    static const struct chain most[3] = {{21, 20, 1}, {20, 19, 2}, {11, 10, 1024}};
-    static const struct chain halves[2] = {{20, 19, 1}, {19, 18, 2}};
-    int i;
-
-    for (i = 0; i < 3; i++) {
-        chains_are(&most[i], 1, MOST_CHUNKS, 0, 0);
-        chains_are(&most[i], 1, MOST_CHUNKS - 1, 0, DOWRINGAF_CHUNK_ROWS);
-    }
-    chains_are(halves, 2, MOST_CHUNKS / 2, 0, 0);
-    chains_are(halves, 2, MOST_CHUNKS / 2 - 1, 0, DOWRINGAF_CHUNK_ROWS);
-}
-
-/* One chunk more, in one list or two, and far more: refused by the check too, whatever the rows. */
-static void test_too_many_chunks(void)
-{
-    static const struct chain too_many[2] = {{201, 200, 1}, {11, 10, 1025}};
-    static const struct chain one_more[2][2] = {{{21, 20, 1}, {1, 0, 1}}, {{1, 0, 1}, {21, 20, 1}}};
-    static const size_t rows[4] = {0, 1, MOST_CHUNKS, MOST_CHUNKS + 1};
-    int i;
-    int j;
-
-    for (i = 0; i < 2; i++) {
-        for (j = 0; j < 4; j++) {
-            chains_are(&too_many[i], 1, rows[j], DOWRINGAF_CHUNK_ROWS, DOWRINGAF_CHUNK_ROWS);
-            chains_are(one_more[i], 2, rows[j], DOWRINGAF_CHUNK_ROWS, DOWRINGAF_CHUNK_ROWS);
-        }
-    }
-}
-
-/* A list that is replaced by a layout without chunks leaves nothing. */
-static void test_most_replaced(void)
-{
-    static const struct chain most = {21, 20, 1};
-    struct writer w;
-    uint8_t *file;
-    struct header h;
-    struct handed f;
-    dowringaf_object o;
-    size_t address;
-
-    begin_root(&w);
-    address = put_chunked(&w, 1, OFFSET);
-    put_later(&w, COMPACT, &o);
-    end_root(&w);
-    o.next = w.count;
-    o.entries = 2;
-    o.rows = 2;
-    lead(&w, address, put_chain(&w, &most), OFFSET, o.next);
-    write_front(&w, UINT64_MAX, w.count);
-    file = copy(w.bytes, w.count);
-    h = header_at(file, w.count, HEADER_FROM, w.count);
-    check_is(&h, passed_with(o.next, 2, 2));
-    f = fill_both(&h, LENT, (size_t)MOST_CHUNKS * DOWRINGAF_CHUNK_WORDS);
-    compare_objects(f.o, &o);
-    compare_zeros(f.chunks, 0, f.chunk_words);
-    take_back(&f);
-    free(file);
-}
-
 /* The library is of the version that its header says. */
 static void test_version(void)
 {
     IS(dowringaf_version(), DOWRINGAF_LIBRARY_VERSION);
 }
-
-/* A number of no refusal. */
-enum { UNUSED = 14 };
 
 /* Words of plain letters, and no other refusal has them. */
 static void words_are_plain(size_t number)
@@ -4370,7 +3386,7 @@ static void words_are_plain(size_t number)
     }
     IS(i != 0, 1);
     for (i = 1; i < number; i++) {
-        IS(i == UNUSED || strcmp(words, refusal_words[i]) != 0, 1);
+        IS(strcmp(words, refusal_words[i]) != 0, 1);
     }
 }
 
@@ -4379,14 +3395,11 @@ static void test_refusal_words(void)
 {
     size_t number;
 
-    IS(REFUSALS, DOWRINGAF_CHUNK_ROWS + 1);
-    for (number = 0; number < REFUSALS; number++) {
-        if (number == 0 || number == UNUSED) {
-            IS(refusal_words[number] == NULL, 1);
-        } else {
-            IS(refusal_words[number] != NULL, 1);
-            words_are_plain(number);
-        }
+    IS(REFUSALS, DOWRINGAF_NAMES + 1);
+    IS(refusal_words[0] == NULL, 1);
+    for (number = 1; number < REFUSALS; number++) {
+        IS(refusal_words[number] != NULL, 1);
+        words_are_plain(number);
     }
 }
 
@@ -4446,19 +3459,17 @@ static int write_refusals(const char *path)
     size_t number;
 
     for (number = 1; written && number < REFUSALS; number++) {
-        if (number != UNUSED) {
-            written = fprintf(stream, "%u: %s\n", (unsigned)number, refusal_words[number]) > 0;
-        }
+        written = fprintf(stream, "%u: %s\n", (unsigned)number, refusal_words[number]) > 0;
     }
     return close_file(path, stream, written);
 }
 
 /* What is written for others, a path for each. */
-enum { PATHS = 10, MANY_CHUNKS = 6, REFUSAL_WORDS = 9 };
+enum { PATHS = 6 };
 
 /*
- * Writes the full header, that with undefined addresses, the numbers, the nulls, the hostile texts,
- * the chunks of a tree, many of them in three files, and the words of the refusals.
+ * Writes the full header, that with undefined addresses, the numbers, the nulls, the hostile texts
+ * and the words of the refusals.
  */
 static int write_files(char **paths)
 {
@@ -4467,7 +3478,6 @@ static int write_files(char **paths)
     struct writer w;
     struct places p;
     int written;
-    int i;
 
     write_full(&w, &p);
     written = write_file(paths[0], &w);
@@ -4479,18 +3489,15 @@ static int write_files(char **paths)
     written &= write_file(paths[3], &w);
     write_hostile(&w);
     written &= write_file(paths[4], &w);
-    write_chunked(&w);
-    written &= write_file(paths[5], &w);
-    for (i = MANY_CHUNKS; i < REFUSAL_WORDS; i++) {
-        write_many_chunks(&w, i - MANY_CHUNKS);
-        written &= write_file(paths[i], &w);
-    }
-    return write_refusals(paths[REFUSAL_WORDS]) && written;
+    return write_refusals(paths[5]) && written;
 }
 
-/* What the functions answer. */
-static void test_all(void)
+/* With paths, also writes the files there. */
+int main(int count, char **words)
 {
+    if (count == PATHS + 1 && !write_files(words + 1)) {
+        return 2;
+    }
     test_version();
     test_refusal_words();
     test_full();
@@ -4526,28 +3533,6 @@ static void test_all(void)
     test_constant();
     test_changed();
     test_names();
-    test_compact();
-    test_chunks();
-}
-
-/* A million chunks, which a memory checker takes minutes for. */
-static void test_most(void)
-{
-    test_most_chunks();
-    test_too_many_chunks();
-    test_most_replaced();
-}
-
-/* With --most, a million chunks and nothing else. With paths, also writes the files there. */
-int main(int count, char **words)
-{
-    if (count == 2 && strcmp(words[1], "--most") == 0) {
-        test_most();
-    } else if (count == PATHS + 1 && !write_files(words + 1)) {
-        return 2;
-    } else {
-        test_all();
-    }
     printf("%lu compared, %lu failed\n", compared, failed);
     return failed == 0 ? 0 : 1;
 }

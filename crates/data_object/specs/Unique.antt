@@ -6,8 +6,7 @@ use Rattle.records.specs.RefusalLaws.{refusal_unique}
 use Rattle.row.specs.Clearing.{table}
 use Rattle.parser.specs.States.{state_for}
 use Rattle.grammar.specs.Grammar.{Item}
-use Rattle.chunk_row.specs.Chunks.{chunk_table}
-use Rattle.grammar.specs.Table.{messages_of, rows_of, last_list}
+use Rattle.grammar.specs.Table.{messages_of, rows_of}
 use Rattle.data_object_header.specs.HeaderLaws.{header_unique}
 use Rattle.data_object_winners.specs.Wins.{wins_of}
 use Rattle.data_object.specs.declared.Answer.{Answer}
@@ -21,24 +20,20 @@ answer_unique (answers.Read p k) (answers.Refused y) e = never (sym e)
 answer_unique (answers.Refused x) (answers.Read q l) e = never e
 answer_unique (answers.Refused x) (answers.Refused y) e = ap answers.Refused (refusal_unique x y (cc))
 
-module _ (file : List ℕ) (offsets lengths end at n k : ℕ) where
-  meant_unique : (a b : Answer) (o o' : DataObject) {t t' c c' : List ℕ} → Meant file offsets lengths end at n k a o t c → Meant file offsets lengths end at n k b o' t' c' → (wins_in o ≡ wins_in o') × ((t ≡ t') × (c ≡ c'))
-  meant_unique (answers.Read p i) (answers.Read q l) o o' m m' =
+module _ (file : List ℕ) (offsets lengths end at n : ℕ) where
+  meant_unique : (a b : Answer) (o o' : DataObject) {t t' : List ℕ} → Meant file offsets lengths end at n a o t → Meant file offsets lengths end at n b o' t' → (wins_in o ≡ wins_in o') × (t ≡ t')
+  meant_unique (answers.Read p k) (answers.Read q l) o o' m m' =
       let same = header_unique file (state_for offsets lengths end) at p q m.items m'.items m.readable.checkable.reading m'.readable.checkable.reading in (
         m.records ∙ ap (λ (xs : List Item). wins_of (messages_of xs)) same.1 ∙ sym m'.records,
-        (
-          m.table ∙ ap (λ (xs : List Item). table n (rows_of xs)) same.1 ∙ sym m'.table,
-          m.list ∙ ap (λ (xs : List Item). chunk_table k (last_list (messages_of xs))) same.1 ∙ sym m'.list,
-        ),
+        m.table ∙ ap (λ (xs : List Item). table n (rows_of xs)) same.1 ∙ sym m'.table,
       )
-  meant_unique (answers.Read p i) (answers.Refused y) o o' m m' = absurd (m'.none p m.items m.readable)
+  meant_unique (answers.Read p k) (answers.Refused y) o o' m m' = absurd (m'.none p m.items m.readable)
   meant_unique (answers.Refused x) (answers.Read q l) o o' m m' = absurd (m.none q m'.items m'.readable)
-  meant_unique (answers.Refused x) (answers.Refused y) o o' m m' = (m.records ∙ sym m'.records, (m.table ∙ sym m'.table, m.list ∙ sym m'.list))
+  meant_unique (answers.Refused x) (answers.Refused y) o o' m m' = (m.records ∙ sym m'.records, m.table ∙ sym m'.table)
 
-  pub decoded_unique : (o o' : DataObject) (t t' c c' : List ℕ) → Decoded file offsets lengths end at n k o t c → Decoded file offsets lengths end at n k o' t' c' → (o ≡ o') × ((t ≡ t') × (c ≡ c'))
-  decoded_unique o o' t t' c c' d d' =
+  pub decoded_unique : (o o' : DataObject) (t t' : List ℕ) → Decoded file offsets lengths end at n o t → Decoded file offsets lengths end at n o' t' → (o ≡ o') × (t ≡ t')
+  decoded_unique o o' t t' d d' =
       let a = answer_unique o.answer o'.answer (d.answer ∙ sym d'.answer) in
       let r = d.rows ∙ sym d'.rows in
-      let h = d.chunks ∙ sym d'.chunks in
       let m = meant_unique o.answer o'.answer o o' d.meant d'.meant in
-      (λ i. record { answer = a i; rows = r i; chunks = h i; ds = (m.0 i).ds; dt = (m.0 i).dt; li = (m.0 i).li; gi = (m.0 i).gi; ai = (m.0 i).ai; layout = (m.0 i).layout }, m.1)
+      (λ i. record { answer = a i; rows = r i; ds = (m.0 i).ds; dt = (m.0 i).dt; li = (m.0 i).li; gi = (m.0 i).gi; ai = (m.0 i).ai; layout = (m.0 i).layout }, m.1)

@@ -8,13 +8,12 @@ ghost use Rattle.parser.specs.States.{Widths};
 ghost use Rattle.data_object.specs.Decoded.{Decoded, bytes_of};
 ghost use Rattle.data_object.specs.DecodedLaws.{Built, RejectedAs};
 
-use chunk_row::{chunk_rows_in, clear_chunks};
-use data_object_messages::{HeaderWalk, Messages, data_object_messages};
+use data_object_messages::{Messages, data_object_messages};
 use data_object_winners::{
     last_rows, winning_attribute_info, winning_data_layout, winning_data_space, winning_data_type,
     winning_group_info, winning_link_info,
 };
-use ohdr_closing::Limits;
+use ohdr_closing::{Limits, Progress};
 use ohdr_layout::contiguous_bytes;
 use parser::State;
 use records::{AttributeInfo, DataLayout, DataSpace, DataType, GroupInfo, LinkInfo, Part, Refusal};
@@ -27,13 +26,12 @@ pub enum Answer {
     Refused(Refusal),
 }
 
-// An object header: the answer, the rows of the table and of the chunk table that are filled, and the
-// records that win; no row and the defaults where it is refused.
+// An object header: the answer, the rows of the table that are filled, and the records that win; no
+// row and the defaults where it is refused.
 #[derive(Drop)]
 pub struct DataObject {
     pub answer: Answer,
     pub rows: usize,
-    pub chunks: usize,
     pub dt: DataType,
     pub ds: DataSpace,
     pub li: LinkInfo,
@@ -56,7 +54,6 @@ fn rejected(refusal: Refusal) -> DataObject
     DataObject {
         answer: Answer::Refused(refusal),
         rows: 0,
-        chunks: 0,
         dt,
         ds,
         li,
@@ -70,7 +67,7 @@ fn rejected(refusal: Refusal) -> DataObject
 fn build_data_object_from_messages(
     file: &[u8],
     table: &[u64],
-    progress: HeaderWalk,
+    progress: Progress,
     state: State,
 ) -> DataObject
     requires { Widths state × (progress.rows ≤ length table.now / row_words) }
@@ -89,7 +86,6 @@ fn build_data_object_from_messages(
     DataObject {
         answer: Answer::Read(progress.at, progress.entries),
         rows,
-        chunks: progress.last,
         dt,
         ds,
         li,
@@ -110,9 +106,8 @@ pub fn data_object(
     length_width: u64,
     end_of_file: u64,
     table: &mut [u64],
-    chunks: &mut [u64],
 ) -> DataObject
-    ensures decoded { Decoded file.now offset_width length_width end_of_file position (length table.old) (length chunks.old) result table.new chunks.new }
+    ensures decoded { Decoded file.now offset_width length_width end_of_file position (length table.old) result table.new }
     ensures true_space { TrueSpace result.ds }
     ensures are_bytes { AreBytes file.now }
 {
@@ -121,13 +116,10 @@ pub fn data_object(
         beyond: Refusal::Entries,
         rows: rows_in(table),
         counts: false,
-        chunks: 1048576,
-        list: chunk_rows_in(chunks),
     };
     match data_object_messages(
         file,
         table,
-        chunks,
         position,
         offset_width,
         length_width,
@@ -136,12 +128,10 @@ pub fn data_object(
     ) {
         Messages::Refused(r, _) => {
             clear_behind(table, 0);
-            clear_chunks(chunks, 0);
             rejected(r)
         }
         Messages::Read(progress, state) => {
             clear_behind(table, progress.rows);
-            clear_chunks(chunks, progress.last);
             build_data_object_from_messages(file, table, progress, state)
         }
     }

@@ -9,10 +9,11 @@ use Rattle.records.specs.declared.Refusal.{Refusal}
 use Rattle.grammar.specs.Grammar.{Item}
 use Rattle.grammar.specs.Walk.{reached, stopped, without_table}
 use Rattle.grammar.specs.WalkLaws.{same_reached}
-use Rattle.data_object_messages.specs.declared.HeaderWalk.{HeaderWalk}
+use Rattle.ohdr_closing.specs.declared.Progress.{Progress}
+use Rattle.ohdr_closing.specs.Answers.{walked_of}
 use Rattle.data_object_header.specs.Headers.{Checkable}
 use Rattle.data_object_header.specs.Passing.{passes_without}
-use Rattle.data_object_messages.specs.Messages.{decode_on, walked_of}
+use Rattle.data_object_messages.specs.Messages.{decode_on}
 use Rattle.data_object_messages.specs.Laws.{stops, Told, told}
 use Rattle.data_object_check.specs.declared.HeaderFigures.{HeaderFigures}
 use Rattle.data_object_check.specs.declared.CheckAnswer.{CheckAnswer}
@@ -31,34 +32,34 @@ module _ (file : List ℕ) (offsets lengths end at : ℕ) where
   found_it : (next : ℕ) (xs : List Item) → Checkable file offsets lengths end at next xs → checked file offsets lengths end at ≡ reached xs next
   found_it next xs c = (passes_without file offsets lengths end at next xs).1 c
 
-  module _ (t c : List ℕ) where
+  module _ (t : List ℕ) where
     -- a walk that was refused
-    pub refused_checked : (x : Refusal) (n : ℕ) → stopped (refusal_number x) n ≡ decode_on file offsets lengths end at without_table t c → Checked file offsets lengths end at (answers.Refused x)
+    pub refused_checked : (x : Refusal) (n : ℕ) → stopped (refusal_number x) n ≡ decode_on file offsets lengths end at without_table t → Checked file offsets lengths end at (answers.Refused x)
     refused_checked x n e =
         record {
           answer = sym (ap figures d);
-          meant = λ next xs y. none next xs y;
+          meant = λ next xs c. none next xs c;
           accepts = λ next xs c. absurd (none next xs c);
         }
       where
         d : checked file offsets lengths end at ≡ stopped (refusal_number x) n
-        d = stops file offsets lengths end at without_table t c (refusal_number x) n e
+        d = stops file offsets lengths end at without_table t (refusal_number x) n e
 
         none : (next : ℕ) (xs : List Item) → Checkable file offsets lengths end at next xs → ⊥
         none next xs c = never (sym (ap figures d) ∙ ap figures (found_it next xs c))
 
     -- a walk that was done
-    pub passed_checked : (p : HeaderWalk) (u v : List ℕ) → reached (walked_of p u v) p.at ≡ decode_on file offsets lengths end at without_table t c
+    pub passed_checked : (p : Progress) (u : List ℕ) → reached (walked_of p u) p.at ≡ decode_on file offsets lengths end at without_table t
         → Checked file offsets lengths end at (answers.Passed (record { next = p.at; entries = p.entries; rows = p.rows }))
-    passed_checked p u v e =
+    passed_checked p u e =
         record {
           answer = ap (λ (x : HeaderFigures). found x p.at) same ∙ sym (ap figures w.reaches);
           meant = record { items = w.items; checkable = (passes_without file offsets lengths end at p.at w.items).0 w.reaches; told = same };
           accepts = λ next xs c. ap answers.Passed (same ∙ same_reached (λ (ys : List Item) (q : ℕ). figures_of q ys) (sym w.reaches ∙ found_it next xs c));
         }
       where
-        w : Told file offsets lengths end at without_table t c p u v
-        w = told file offsets lengths end at without_table t c p u v e
+        w : Told file offsets lengths end at without_table t p u
+        w = told file offsets lengths end at without_table t p u e
 
         same : ◌≡◌ {A = HeaderFigures} (record { next = p.at; entries = p.entries; rows = p.rows }) (figures_of p.at w.items)
         same = λ i. record { next = p.at; entries = w.entries i; rows = w.rows i }

@@ -35,15 +35,11 @@ pub fn check_data_object(
         beyond: Refusal::Entries,
         rows: 0,
         counts: true,
-        chunks: 1048576,
-        list: 1048576,
     };
     let mut none = [0u64; 0];
-    let mut no_chunks = [0u64; 0];
     match data_object_messages(
         file,
         &mut none,
-        &mut no_chunks,
         position,
         offset_width,
         length_width,

@@ -5,8 +5,7 @@ use Rattle.format.specs.Format.{Format, done, number, skip, bind, check, pick, s
 use Rattle.parser.specs.declared.State.{State}
 use Rattle.parser.specs.States.{file_limit, Widths, width_allowed, state_for}
 use Rattle.grammar.specs.Grammar.{Item, Reading}
-use Rattle.grammar.specs.Table.{chunks_in}
-use Rattle.grammar.specs.Walk.{choose, Went, stopped, and_then, begun, Limits, entry_limit, chunk_limit, walk}
+use Rattle.grammar.specs.Walk.{choose, Went, stopped, and_then, begun, Limits, entry_limit, walk}
 use Rattle.ohdr_walk.specs.Sources.{source}
 use Rattle.data_object_header.specs.declared.HeaderFields.{HeaderFields}
 
@@ -51,10 +50,9 @@ decode file offsets lengths end at l =
     (λ _. stopped 2 0)) (λ _. stopped 1 0)
 
 -- A header that has a reading, whatever table is lent: widths of 2 to 8 bytes, a file of at most 2,147,483,648 bytes, and a reading of at most 4,096
--- entries and 1,048,576 chunks.
+-- entries.
 pub record Checkable (file : List ℕ) (offsets lengths end at next : ℕ) (xs : List Item) : Type 0 where
   pub widths : Widths (state_for offsets lengths end)
   pub small : length file ≤ file_limit
   pub reading : HeaderReading file (state_for offsets lengths end) at next xs
   pub few : length xs ≤ entry_limit
-  pub within : chunks_in xs ≤ chunk_limit

@@ -9,11 +9,12 @@ use Rattle.parser.specs.declared.State.{State}
 use Rattle.parser.specs.declared.NewState.TheVariants as states
 use Rattle.parser.specs.States.{file_limit, state_of}
 use Rattle.grammar.specs.Grammar.{Item}
-use Rattle.grammar.specs.Table.{messages_of, messages, rows_of, last_list, listed}
+use Rattle.grammar.specs.Table.{messages, rows_of}
 use Rattle.grammar.specs.Walk.{reached, stopped, Limits}
 use Rattle.grammar.specs.WalkLaws.{first}
-use Rattle.grammar.specs.Filled.{Walked, fresh, grown, tell, untold, walk_on, length-last}
-use Rattle.data_object_messages.specs.declared.HeaderWalk.{HeaderWalk}
+use Rattle.grammar.specs.Filled.{Walked, grown, tell, untold, walk_on}
+use Rattle.ohdr_closing.specs.declared.Progress.{Progress}
+use Rattle.ohdr_closing.specs.Answers.{walked_of}
 use Rattle.ohdr_walk.specs.Sources.{source}
 use Rattle.data_object_header.specs.Answers.{fields_out}
 use Rattle.data_object_header.specs.declared.HeaderFields.{HeaderFields}
@@ -21,56 +22,52 @@ use Rattle.data_object_header.specs.declared.FieldsRead.{FieldsRead}
 use Rattle.data_object_header.specs.declared.FieldsRead.TheVariants as fields
 use Rattle.data_object_header.specs.Headers.{header_fields, decode}
 use Rattle.data_object_header.specs.HeaderLaws.{unread, walked, starts_after, starts_inside, size_small, no_width, too_large, goes_on}
-use Rattle.data_object_messages.specs.Messages.{header_on, decode_on, walked_of}
+use Rattle.data_object_messages.specs.Messages.{fresh, header_on, decode_on}
 
 -- a header's fields, and then its messages
-module _ (file : List ℕ) (s : State) (at : ℕ) (l : Limits) (t c : List ℕ) {r : FieldsRead} (f : fields_out r ≡ read file header_fields at) where
-  pub fields_refused : {x : Refusal} → r ≡ fields.Refused x → stopped (refusal_number x) 0 ≡ header_on file s at l t c
-  fields_refused e = sym (ap (tell (fresh t c)) (unread file s l at f e))
+module _ (file : List ℕ) (s : State) (at : ℕ) (l : Limits) (t : List ℕ) {r : FieldsRead} (f : fields_out r ≡ read file header_fields at) where
+  pub fields_refused : {x : Refusal} → r ≡ fields.Refused x → stopped (refusal_number x) 0 ≡ header_on file s at l t
+  fields_refused e = sym (ap (tell (fresh t)) (unread file s l at f e))
 
-  pub fields_read : {v : HeaderFields} {from : ℕ} → r ≡ fields.Read v from → walk_on (source file s v.flags) l at (from + v.size) from t c ≡ header_on file s at l t c
-  fields_read e = sym (ap (tell (fresh t c)) (walked file s l at f e))
+  pub fields_read : {v : HeaderFields} {from : ℕ} → r ≡ fields.Read v from → walk_on (source file s v.flags) l at (from + v.size) from t ≡ header_on file s at l t
+  fields_read e = sym (ap (tell (fresh t)) (walked file s l at f e))
 
   pub fields_bound : {v : HeaderFields} {from : ℕ} → r ≡ fields.Read v from → (at ≤ from) × (from ≤ length file) × (v.size ≤ 16777216)
   fields_bound e = (starts_after file s l at f e, starts_inside file s l at f e, size_small file s l at f e)
 
 -- the tests that come first
-module _ (file : List ℕ) (offsets lengths end at : ℕ) (l : Limits) (t c : List ℕ) where
-  pub not_made : {x : Refusal} → state_of offsets lengths end ≡ states.Refused x → stopped (refusal_number x) 0 ≡ decode_on file offsets lengths end at l t c
-  not_made e = sym (ap (tell (fresh t c)) (no_width offsets lengths end file at l e))
+module _ (file : List ℕ) (offsets lengths end at : ℕ) (l : Limits) (t : List ℕ) where
+  pub not_made : {x : Refusal} → state_of offsets lengths end ≡ states.Refused x → stopped (refusal_number x) 0 ≡ decode_on file offsets lengths end at l t
+  not_made e = sym (ap (tell (fresh t)) (no_width offsets lengths end file at l e))
 
   module _ {s : State} (m : state_of offsets lengths end ≡ states.Made s) where
-    pub not_small : file_limit < length file → stopped 2 0 ≡ decode_on file offsets lengths end at l t c
-    not_small h = sym (ap (tell (fresh t c)) (too_large offsets lengths end file at l m h))
+    pub not_small : file_limit < length file → stopped 2 0 ≡ decode_on file offsets lengths end at l t
+    not_small h = sym (ap (tell (fresh t)) (too_large offsets lengths end file at l m h))
 
-    pub goes_in : length file ≤ file_limit → header_on file s at l t c ≡ decode_on file offsets lengths end at l t c
-    goes_in h = sym (ap (tell (fresh t c)) (goes_on offsets lengths end file at l m h))
+    pub goes_in : length file ≤ file_limit → header_on file s at l t ≡ decode_on file offsets lengths end at l t
+    goes_in h = sym (ap (tell (fresh t)) (goes_on offsets lengths end file at l m h))
 
   -- a walk that was refused
-  pub stops : (x k : ℕ) → stopped x k ≡ decode_on file offsets lengths end at l t c → decode file offsets lengths end at l ≡ stopped x k
-  stops x k e = untold (fresh t c) (decode file offsets lengths end at l) (sym e)
+  pub stops : (x k : ℕ) → stopped x k ≡ decode_on file offsets lengths end at l t → decode file offsets lengths end at l ≡ stopped x k
+  stops x k e = untold (fresh t) (decode file offsets lengths end at l) (sym e)
 
-  -- a walk that was done, over a table t which it leaves as u and a chunk table c which it leaves as v: its items, and what of them is told
-  pub record Told (p : HeaderWalk) (u v : List ℕ) : Type 0 where
+  -- a walk that was done, over a table t which it leaves as u: its items, and what of them is told
+  pub record Told (p : Progress) (u : List ℕ) : Type 0 where
     pub items : List Item
     pub reaches : decode file offsets lengths end at l ≡ reached items p.at
     pub entries : p.entries ≡ length items
     pub rows : p.rows ≡ messages items
     pub filled : u ≡ put_all t 0 (rows_of items)
-    pub last : p.last ≡ length (last_list (messages_of items))
-    pub lists : v ≡ listed c (messages_of items)
 
-  pub told : (p : HeaderWalk) (u v : List ℕ) → reached (walked_of p u v) p.at ≡ decode_on file offsets lengths end at l t c → Told p u v
-  told p u v e =
-      let w = first (decode file offsets lengths end at l) (λ xs q. reached (grown (fresh t c) xs) q) (sym e) in
-      let j : w.next ≡ p.at = cc w.then in
-      let d : grown (fresh t c) w.value ≡ walked_of p u v = cc w.then in
+  pub told : (p : Progress) (u : List ℕ) → reached (walked_of p u) p.at ≡ decode_on file offsets lengths end at l t → Told p u
+  told p u e =
+      let v = first (decode file offsets lengths end at l) (λ xs q. reached (grown (fresh t) xs) q) (sym e) in
+      let c : v.next ≡ p.at = cc v.then in
+      let d : grown (fresh t) v.value ≡ walked_of p u = cc v.then in
       record {
-        items = w.value;
-        reaches = w.first ∙ ap (reached w.value) j;
+        items = v.value;
+        reaches = v.first ∙ ap (reached v.value) c;
         entries = omega (arith, ap (λ (x : Walked). x.entries) d);
         rows = omega (arith, ap (λ (x : Walked). x.rows) d);
         filled = sym (ap (λ (x : Walked). x.table) d);
-        last = sym (ap (λ (x : Walked). x.last) d) ∙ length-last (messages_of w.value);
-        lists = sym (ap (λ (x : Walked). x.list) d);
       }

@@ -4,27 +4,27 @@ use Rattle.records.specs.Refusals.{refusal_number}
 use Rattle.parser.specs.declared.State.{State}
 use Rattle.parser.specs.States.{Widths, state_for}
 use Rattle.grammar.specs.Walk.{Went, reached, stopped, Limits}
-use Rattle.grammar.specs.Filled.{Walked, fresh, tell}
-use Rattle.data_object_messages.specs.declared.HeaderWalk.{HeaderWalk}
+use Rattle.grammar.specs.Filled.{Walked, tell}
+use Rattle.ohdr_closing.specs.Answers.{walked_of}
 use Rattle.data_object_header.specs.Headers.{header, decode}
 use Rattle.data_object_messages.specs.declared.Messages.{Messages}
 use Rattle.data_object_messages.specs.declared.Messages.TheVariants as answers
 
--- what a header gives, and what decoding does, within limits: its rows go into the table t, its lists into the chunk table c
-abbrev pub header_on : List ℕ → State → ℕ → Limits → List ℕ → List ℕ → Went Walked
-header_on file s at l t c = tell (fresh t c) (header file s l at)
+-- a walk that has not begun
+abbrev pub fresh : List ℕ → Walked
+fresh t = record { entries = 0; rows = 0; table = t }
 
-abbrev pub decode_on : List ℕ → ℕ → ℕ → ℕ → ℕ → Limits → List ℕ → List ℕ → Went Walked
-decode_on file offsets lengths end at l t c = tell (fresh t c) (decode file offsets lengths end at l)
+-- what a header gives, and what decoding does, within limits: its rows go into the table t
+abbrev pub header_on : List ℕ → State → ℕ → Limits → List ℕ → Went Walked
+header_on file s at l t = tell (fresh t) (header file s l at)
 
--- where a walk ended, with the tables t and c that it leaves
-abbrev pub walked_of : HeaderWalk → List ℕ → List ℕ → Walked
-walked_of p t c = record { entries = p.entries; rows = p.rows; table = t; chunks = p.chunks; last = p.last; list = c }
+abbrev pub decode_on : List ℕ → ℕ → ℕ → ℕ → ℕ → Limits → List ℕ → Went Walked
+decode_on file offsets lengths end at l t = tell (fresh t) (decode file offsets lengths end at l)
 
--- the answer with the tables that it leaves; of a refusal they are no part
-abbrev pub messages_out : Messages → List ℕ → List ℕ → Went Walked
-messages_out (answers.Read p s) t c = reached (walked_of p t c) p.at
-messages_out (answers.Refused r n) t c = stopped (refusal_number r) n
+-- the answer with the table that it leaves; of a refusal the table is no part
+abbrev pub messages_out : Messages → List ℕ → Went Walked
+messages_out (answers.Read p s) t = reached (walked_of p t) p.at
+messages_out (answers.Refused r n) t = stopped (refusal_number r) n
 
 -- the state that is handed on is that of the widths and the end-of-file address
 abbrev pub StateRead : ℕ → ℕ → ℕ → Messages → Type 0

@@ -1,5 +1,5 @@
 -- What is handed over of a file's root, and what checking it yields, is what the same gives by hand with the superblock's values, and there is one
--- table, one chunk table, one list of words and one answer of a check, since decoding and checking have one answer. What is refused has a true dataspace too.
+-- table, one list of words and one answer of a check, since decoding and checking have one answer. What is refused has a true dataspace too.
 -- Assumes nothing.
 use Rattle.std.specs.Prelude.{ℕ, ◌≡◌, refl, List}
 use Rattle.std.proofs.Common.{sym, ◌∙◌}
@@ -14,17 +14,17 @@ use Rattle.data_object_words.specs.Handed.{Handed, TrueWords}
 use Rattle.data_object_words.specs.Unique.{handed_unique}
 use Rattle.data_object_root.specs.Root.{refused_words, HandedBy, HandedRoot, CheckedBy, CheckedRoot}
 
-module _ (file : List ℕ) (n k : ℕ) (t u c d v w : List ℕ) where
-  by_block : (o : Out SuperBlock) → HandedBy file n k t c v o → HandedBy file n k u d w o → (t ≡ u) × ((c ≡ d) × (v ≡ w))
+module _ (file : List ℕ) (n : ℕ) (t u v w : List ℕ) where
+  by_block : (o : Out SuperBlock) → HandedBy file n t v o → HandedBy file n u w o → (t ≡ u) × (v ≡ w)
   by_block (found b q) h g =
-      handed_unique file b.size_of_offsets b.size_of_lengths b.end_of_file_address b.root_group_object_header_address n k t u c d v w h g
-  by_block (refused r) h g = (h.0 ∙ sym g.0, (h.1.0 ∙ sym g.1.0, h.1.1 ∙ sym g.1.1))
+      handed_unique file b.size_of_offsets b.size_of_lengths b.end_of_file_address b.root_group_object_header_address n t u v w h g
+  by_block (refused r) h g = (h.0 ∙ sym g.0, h.1 ∙ sym g.1)
 
-  pub handed_root_unique : HandedRoot file n k t c v → HandedRoot file n k u d w → (t ≡ u) × ((c ≡ d) × (v ≡ w))
+  pub handed_root_unique : HandedRoot file n t v → HandedRoot file n u w → (t ≡ u) × (v ≡ w)
   handed_root_unique h g = by_block (super_block_of file) h g
 
-  pub root_by_hand : (b : SuperBlock) (q : ℕ) → super_block_of file ≡ found b q → HandedRoot file n k t c v
-      → Handed file b.size_of_offsets b.size_of_lengths b.end_of_file_address b.root_group_object_header_address n k u d w → (t ≡ u) × ((c ≡ d) × (v ≡ w))
+  pub root_by_hand : (b : SuperBlock) (q : ℕ) → super_block_of file ≡ found b q → HandedRoot file n t v
+      → Handed file b.size_of_offsets b.size_of_lengths b.end_of_file_address b.root_group_object_header_address n u w → (t ≡ u) × (v ≡ w)
   root_by_hand b q e h g = by_block (found b q) (rw e at h) g
 
 module _ (file : List ℕ) (x y : CheckAnswer) where

@@ -11,16 +11,16 @@ use Rattle.data_object_words.specs.Handed.{Handed}
 
 -- the number of a refusal, no position, entry or row, and the defaults: the dataspace, which has one element, and records of which every word is 0
 abbrev pub refused_words : ℕ → List ℕ
-refused_words r = r ∷ 0 ∷ 0 ∷ 0 ∷ (data_space_words default_data_space ++ replicate 47 0)
+refused_words r = r ∷ 0 ∷ 0 ∷ 0 ∷ (data_space_words default_data_space ++ replicate 45 0)
 
--- Over a file, a table of n words, which ends as t, and a chunk table of k words, which ends as c, with the words w.
-module _ (file : List ℕ) (n k : ℕ) (t c w : List ℕ) where
+-- Over a file and a table of n words, which ends as t, with the words w.
+module _ (file : List ℕ) (n : ℕ) (t w : List ℕ) where
   -- with a superblock: what decoding the header at its root address yields, with its widths and its end-of-file address; where it is refused,
-  -- both tables are all zero, and nothing but the number and the defaults is handed over
+  -- the table is all zero, and nothing but the number and the defaults is handed over
   abbrev pub HandedBy : Out SuperBlock → Type 0
   HandedBy (found b q) =
-      Handed file b.size_of_offsets b.size_of_lengths b.end_of_file_address b.root_group_object_header_address n k t c w
-  HandedBy (refused r) = (t ≡ replicate n 0) × ((c ≡ replicate k 0) × (w ≡ refused_words r))
+      Handed file b.size_of_offsets b.size_of_lengths b.end_of_file_address b.root_group_object_header_address n t w
+  HandedBy (refused r) = (t ≡ replicate n 0) × (w ≡ refused_words r)
 
   -- with the file's own
   abbrev pub HandedRoot : Type 0

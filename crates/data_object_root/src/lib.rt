@@ -6,7 +6,6 @@ ghost use Rattle.records.specs.Refusals.{refusal_number};
 ghost use Rattle.data_object_words.specs.Handed.{TrueWords};
 ghost use Rattle.data_object_root.specs.Root.{refused_words, HandedRoot, CheckedRoot};
 
-use chunk_row::clear_chunks;
 use data_object_check::{CheckAnswer, check_data_object};
 use data_object_words::header_words;
 use records::Refusal;
@@ -16,7 +15,7 @@ use super_block::{SuperBlockRead, super_block};
 // The words of a file that is refused: the refusal's number, and the default records, of which the
 // dataspace has one element.
 fn put_refusal(words: &mut [u64], refusal: Refusal)
-    requires { length words.old ≡ 67 }
+    requires { length words.old ≡ 65 }
     ensures { words.new ≡ refused_words (refusal_number refusal) }
 {
     clear_behind(words, 0);
@@ -24,17 +23,16 @@ fn put_refusal(words: &mut [u64], refusal: Refusal)
     words[19] = 1;
 }
 
-// The root's object header: its messages in the table, its chunks in the other, and its words. A
-// superblock that is refused leaves both tables all zero.
-pub fn root_words(file: &[u8], table: &mut [u64], chunks: &mut [u64], words: &mut [u64; 67])
-    ensures handed_root { HandedRoot file.now (length table.old) (length chunks.old) table.new chunks.new words.new }
+// The root's object header: its messages in the table, and its words. A superblock that is refused
+// leaves the table all zero.
+pub fn root_words(file: &[u8], table: &mut [u64], words: &mut [u64; 65])
+    ensures handed_root { HandedRoot file.now (length table.old) table.new words.new }
     ensures true_words { TrueWords words.new }
     ensures are_bytes { AreBytes file.now }
 {
     match super_block(file) {
         SuperBlockRead::Refused(refusal) => {
             clear_behind(table, 0);
-            clear_chunks(chunks, 0);
             put_refusal(words, refusal);
         }
         SuperBlockRead::Read(block, _) => header_words(
@@ -44,7 +42,6 @@ pub fn root_words(file: &[u8], table: &mut [u64], chunks: &mut [u64], words: &mu
             block.size_of_lengths as u64,
             block.end_of_file_address,
             table,
-            chunks,
             words,
         ),
     }

@@ -6,10 +6,7 @@ use Rattle.helpers.specs.Addresses.{address, defined_address}
 use Rattle.ohdr_entry.specs.Continuations.{continuation}
 use Rattle.grammar.specs.Grammar.{ochk, block_end, header_end}
 use Rattle.grammar.specs.Walk.{stopped, Limits, within, lent, without_table, hold, entry_by, run_by, block_by, entry_at, run_at, walk}
-use Rattle.ohdr_layout.specs.DataLayouts.{data_layout, chunked as chunked_storage}
-use Rattle.chunk_tree.specs.Tree.{offset, offsets, key, mark as nodeMark, entry_count, placed, keyed, entries, chunk, leads, root, chunk_list, list_for}
-use Rattle.chunk_tree.specs.Tree as trees
-use Rattle.ohdr_entry.specs.Entries.{entry, prefix, creation_order, closed, message_held, continuation_held, body, plain_body, layout_body}
+use Rattle.ohdr_entry.specs.Entries.{entry, prefix, creation_order, closed, message_held, continuation_held, body, plain_body}
 use Rattle.lookup3.specs.Lookup3.{plus, minus, rotate, mix_line, mix, final_line, final_mix, add_block, blocks, sum_of, sum_matches}
 use Rattle.data_object_header.specs.Headers.{ohdr, header_fields, header, decode}
 use Rattle.data_object_theorems.specs.Cases.{opening}
@@ -46,26 +43,17 @@ mark = 0x4F ∷ 0x43 ∷ 0x48 ∷ 0x4B ∷ []
 abbrev led : List ℕ
 led = opening ++ 12 ∷ plain ++ to 23 16 ++ unmatched
 
--- a chunked layout of one dimension, whose tree stands at 28; a leaf with one entry, up to its chunk's address
-abbrev chunked : List ℕ
-chunked = 8 ∷ 9 ∷ 0 ∷ 0 ∷ 3 ∷ 2 ∷ 1 ∷ 28 ∷ 0 ∷ 1 ∷ 0 ∷ 0 ∷ 0 ∷ []
-
-abbrev leaf : List ℕ
-leaf = 0x54 ∷ 0x52 ∷ 0x45 ∷ 0x45 ∷ 1 ∷ 0 ∷ 1 ∷ 0 ∷ 255 ∷ 255 ∷ 255 ∷ 255 ∷ 9 ∷ 0 ∷ 0 ∷ 0 ∷ 0 ∷ 0 ∷ 0 ∷ 0 ∷ 0 ∷ 0 ∷ 0 ∷ 0 ∷ 0 ∷ 0 ∷ 0 ∷ 0 ∷ 5 ∷ 0 ∷ []
-
 abbrev pub refused_cases : List Refused
 refused_cases =
     -- the second message finds no row: it is begun
-    record { file = opening ++ 8 ∷ plain ++ plain ++ unmatched; limits = lent 1 0; number = 24; begun = 2 }
+    record { file = opening ++ 8 ∷ plain ++ plain ++ unmatched; limits = lent 1; number = 24; begun = 2 }
     -- a message and a continuation to their own block, in each of 25 levels: the last continuation is begun
-    ∷ record { file = opening ++ 8 ∷ to 19 20 ++ unmatched ++ mark ++ plain ++ to 19 20 ++ unmatched; limits = lent 25 0; number = 21; begun = 51 }
-    -- a layout lists a chunk, and there is no row for it, though one for the layout: it is begun
-    ∷ record { file = opening ++ 17 ∷ plain ++ chunked ++ unmatched ++ leaf; limits = lent 2 0; number = 32; begun = 2 }
+    ∷ record { file = opening ++ 8 ∷ to 19 20 ++ unmatched ++ mark ++ plain ++ to 19 20 ++ unmatched; limits = lent 25; number = 21; begun = 51 }
     -- the third entry has a flag that refuses it, or is not closed in the file: it is begun
     ∷ record { file = opening ++ 12 ∷ plain ++ plain ++ flagged ++ unmatched; limits = without_table; number = 8; begun = 3 }
     ∷ record { file = opening ++ 12 ∷ plain ++ plain ++ long ++ unmatched; limits = without_table; number = 3; begun = 3 }
     -- a third entry where two are allowed: it is not begun, whatever it holds
-    ∷ record { file = opening ++ 12 ∷ plain ++ plain ++ flagged ++ unmatched; limits = within 2 23 9 0; number = 23; begun = 2 }
+    ∷ record { file = opening ++ 12 ∷ plain ++ plain ++ flagged ++ unmatched; limits = within 2 23 9; number = 23; begun = 2 }
     -- a header after its two entries: its checksum is cut, or does not match
     ∷ record { file = opening ++ 8 ∷ plain ++ plain; limits = without_table; number = 3; begun = 2 }
     ∷ record { file = opening ++ 8 ∷ plain ++ plain ++ unmatched; limits = without_table; number = 28; begun = 2 }
@@ -79,5 +67,5 @@ refused_cases =
 
 -- the definition refuses each case with its number and its entries begun
 pub refused_cases_lem : map (λ (c : Refused). decode c.file 2 2 64 0 c.limits) refused_cases ≡ map (λ (c : Refused). stopped c.number c.begun) refused_cases
-unfolding le read bind address defined_address continuation ochk block_end header_end plus minus rotate mix_line mix final_line final_mix add_block blocks sum_of sum_matches hold entry_by run_by block_by entry_at run_at walk entry prefix creation_order closed message_held continuation_held body plain_body layout_body data_layout chunked_storage offset offsets key nodeMark entry_count placed keyed entries chunk leads trees.entry root chunk_list list_for ohdr header_fields header decode
+unfolding le read bind address defined_address continuation ochk block_end header_end plus minus rotate mix_line mix final_line final_mix add_block blocks sum_of sum_matches hold entry_by run_by block_by entry_at run_at walk entry prefix creation_order closed message_held continuation_held body plain_body ohdr header_fields header decode
 refused_cases_lem = refl

@@ -4,7 +4,6 @@ use Rattle.std.proofs.Common.{sym, arith}
 use Rattle.std.proofs.Math.Logic.{inl, inr}
 use Rattle.format.specs.Format.{done, Stands}
 use Rattle.format.specs.Standing.{stands_bind}
-use Rattle.format.specs.Rooms.{any}
 use Rattle.records.specs.declared.DataSpace.{DataSpace}
 use Rattle.records.specs.declared.DataType.{DataType}
 use Rattle.records.specs.declared.Value.{Value}
@@ -53,13 +52,13 @@ module _ (file : List ℕ) (s : State) where
   BoundedKept b (messages.data_space d) = Bounded d
   BoundedKept b (messages.link_info l) = Unit {0}
   BoundedKept b (messages.data_type t) = Unit {0}
-  BoundedKept b (messages.data_layout d cs) = Unit {0}
+  BoundedKept b (messages.data_layout d) = Unit {0}
   BoundedKept b (messages.group_info g) = Unit {0}
   BoundedKept b (messages.attribute a) = AttributeBounded b a
   BoundedKept b (messages.attribute_info a) = Unit {0}
 
   -- the dataspace of a dataspace message
-  kept_space : (p q : ℕ) (d : DataSpace) → Stands file (body s any 1) p q (messages.data_space d) → Bounded d
+  kept_space : (p q : ℕ) (d : DataSpace) → Stands file (body s 1) p q (messages.data_space d) → Bounded d
   unfolding body plain_body
   kept_space p q d h =
       let w = stands_bind file (data_space s) (λ x. done (messages.data_space x)) p q (messages.data_space d) h in
@@ -93,14 +92,14 @@ module _ (file : List ℕ) (s : State) where
       go version p (inl x) = inl (spaced version p q a.value x.stands)
       go version p (inr x) = inr x
 
-  kept_attribute : (p q : ℕ) (a : Attribute) → Stands file (body s any 12) p q (messages.attribute a) → AttributeBounded p a
+  kept_attribute : (p q : ℕ) (a : Attribute) → Stands file (body s 12) p q (messages.attribute a) → AttributeBounded p a
   unfolding body plain_body attribute_body
   kept_attribute p q a h =
       let w = stands_bind file (attribute s) (λ x. done (messages.attribute x)) p q (messages.attribute a) h in
       let e : w.1 ≡ a = cc w.3.1 in
       rw (← e) (attribute_bounded p w.0 w.1 w.2)
 
-  bounded_kept : (type p q : ℕ) (k : Kept) → Stands file (body s any type) p q k → BoundedKept p k
+  bounded_kept : (type p q : ℕ) (k : Kept) → Stands file (body s type) p q k → BoundedKept p k
   bounded_kept type p q messages.nothing h = tt
   bounded_kept type p q (messages.data_space d) h = go (typed file s type p q (messages.data_space d) h)
     where
@@ -109,7 +108,7 @@ module _ (file : List ℕ) (s : State) where
       go (inr e) = kept_space p q d (rw (sym e) at h)
   bounded_kept type p q (messages.link_info l) h = tt
   bounded_kept type p q (messages.data_type t) h = tt
-  bounded_kept type p q (messages.data_layout d cs) h = tt
+  bounded_kept type p q (messages.data_layout d) h = tt
   bounded_kept type p q (messages.group_info g) h = tt
   bounded_kept type p q (messages.attribute a) h = go (typed file s type p q (messages.attribute a) h)
     where

@@ -5,9 +5,7 @@ use Rattle.format.specs.Format.{Out, found, refused, read, bind, times}
 use Rattle.ohdr_info.specs.Info.{cond, group_info}
 use Rattle.helpers.specs.Addresses.{address, defined_address}
 use Rattle.ohdr_entry.specs.Continuations.{continuation}
-use Rattle.ohdr_layout.specs.DataLayouts.{compact, data_from, raw_data_lem, contiguous, chunked, data_layout}
-use Rattle.chunk_tree.specs.Tree as trees
-use Rattle.chunk_tree.specs.Tree.{offset, mark, entry_count, placed, keyed, child, chunk, leads, root, chunk_list, list_for}
+use Rattle.ohdr_layout.specs.DataLayouts.{data_from, raw_data_lem, contiguous, data_layout}
 use Rattle.ohdr_datatype.specs.DataTypes.{data_type, type_layer, data_type_header, known_type, known_class, properties, plain}
 use Rattle.ohdr_dataspace.specs.DataSpaces.{data_space, data_space2, dimensions, dimensions_from, dimension, maximum_sizes}
 use Rattle.grammar.specs.Grammar.{ochk, block_end, header_end}
@@ -25,9 +23,9 @@ pub record Case : Type 0 where
   pub end : ℕ
   pub outcome : Out ℕ
 
--- what the definition gives, with two rows and two chunk rows lent
+-- what the definition gives, with two rows lent
 abbrev pub given : Case → Out ℕ
-given c = counts (decode c.file c.offsets c.lengths c.end 0 (lent 2 2))
+given c = counts (decode c.file c.offsets c.lengths c.end 0 (lent 2))
 
 -- `OHDR`, version 2 and flags 0
 abbrev pub opening : List ℕ
@@ -58,24 +56,6 @@ continued_far low sum = opening ++ (8 ∷ 16 ∷ 4 ∷ 0 ∷ 0 ∷ low ∷ 0xFF 
 
 abbrev stored_far : ℕ → List ℕ → List ℕ
 stored_far low sum = opening ++ (10 ∷ 8 ∷ 6 ∷ 0 ∷ 0 ∷ 3 ∷ 1 ∷ low ∷ 0xFF ∷ 1 ∷ 0 ∷ []) ++ sum
-
--- a layout of so many dimensions, up to 6, whose tree follows the header
-abbrev chunked_by : ℕ → List ℕ → List ℕ
-chunked_by dimensionality sum = opening ++ (13 ∷ 8 ∷ 9 ∷ 0 ∷ 0 ∷ 3 ∷ 2 ∷ dimensionality ∷ 24 ∷ 0 ∷ 0 ∷ 0 ∷ 0 ∷ 0 ∷ []) ++ sum
-
--- a node of the tree, `TREE`, on a level, with so many entries; the last key of a node; and a key with the address of a child or a chunk
-abbrev node : ℕ → ℕ → List ℕ
-node level entries = 0x54 ∷ 0x52 ∷ 0x45 ∷ 0x45 ∷ 1 ∷ level ∷ entries ∷ 0 ∷ 0xFF ∷ 0xFF ∷ 0xFF ∷ 0xFF ∷ []
-
-abbrev last_key : List ℕ
-last_key = 1 ∷ 0 ∷ 0 ∷ 0 ∷ 0 ∷ 0 ∷ 0 ∷ 0 ∷ 7 ∷ 0 ∷ 0 ∷ 0 ∷ 0 ∷ 0 ∷ 0 ∷ 0 ∷ []
-
-abbrev leads_to : ℕ → List ℕ
-leads_to low = last_key ++ (low ∷ 0 ∷ [])
-
--- the checksum of a header with such a layout of one dimension
-abbrev layout_sum : List ℕ
-layout_sum = 0x69 ∷ 0x50 ∷ 0x16 ∷ 0x46 ∷ []
 
 -- the checksum of a block of 8 bytes
 abbrev block_sum : List ℕ
@@ -109,23 +89,6 @@ marked =
     ∷ record { file = opening ++ (0 ∷ 0xEF ∷ 0x17 ∷ 0x04 ∷ 0x2C ∷ []); offsets = 8; lengths = 8; end = 11; outcome = refused 28 }
     ∷ record { file = continued 8 (0x14 ∷ 0x9C ∷ 0x70 ∷ 0x6E ∷ []) ++ (0x9C ∷ 0xD6 ∷ 0xB8 ∷ 0x85 ∷ []); offsets = 2; lengths = 2; end = 27; outcome = refused 28 }
     ∷ record { file = opening ++ (0 ∷ 0xEF ∷ 0x17 ∷ 0x14 ∷ []); offsets = 8; lengths = 8; end = 10; outcome = refused 3 }
-    -- compact data of one byte
-    ∷ record { file = opening ++ (9 ∷ 8 ∷ 5 ∷ 0 ∷ 0 ∷ 3 ∷ 0 ∷ 1 ∷ 0 ∷ 0xAA ∷ 0xD4 ∷ 0xC1 ∷ 0xEC ∷ 0x6D ∷ []); offsets = 2; lengths = 2; end = 20; outcome = found 1 20 }
-    -- a tree of two chunks, and of three, for which there are two chunk rows: the third's address is tested first; a chunk at the last byte before
-    -- end-of-file, at end-of-file and at 0
-    ∷ record { file = chunked_by 1 layout_sum ++ node 0 2 ++ leads_to 9 ++ leads_to 199 ++ last_key; offsets = 2; lengths = 2; end = 200; outcome = found 1 24 }
-    ∷ record { file = chunked_by 1 layout_sum ++ node 0 3 ++ leads_to 9 ++ leads_to 9 ++ leads_to 9 ++ last_key; offsets = 2; lengths = 2; end = 200; outcome = refused 32 }
-    ∷ record { file = chunked_by 1 layout_sum ++ node 0 3 ++ leads_to 9 ++ leads_to 9 ++ leads_to 0 ++ last_key; offsets = 2; lengths = 2; end = 200; outcome = refused 30 }
-    ∷ record { file = chunked_by 1 layout_sum ++ node 0 2 ++ leads_to 9 ++ leads_to 200 ++ last_key; offsets = 2; lengths = 2; end = 200; outcome = refused 30 }
-    ∷ record { file = chunked_by 1 layout_sum ++ node 0 2 ++ leads_to 9 ++ leads_to 0 ++ last_key; offsets = 2; lengths = 2; end = 200; outcome = refused 30 }
-    -- a tree of two levels, one that leads to itself, and one with a node that has no entries
-    ∷ record { file = chunked_by 1 layout_sum ++ node 1 1 ++ leads_to 70 ++ last_key ++ node 0 1 ++ leads_to 9 ++ last_key; offsets = 2; lengths = 2; end = 200; outcome = found 1 24 }
-    ∷ record { file = chunked_by 1 layout_sum ++ node 1 1 ++ leads_to 24 ++ last_key; offsets = 2; lengths = 2; end = 200; outcome = refused 31 }
-    ∷ record { file = chunked_by 1 layout_sum ++ node 1 1 ++ leads_to 70 ++ last_key ++ node 0 0 ++ last_key; offsets = 2; lengths = 2; end = 200; outcome = refused 30 }
-    -- a root without entries; the last key cut by the file's end; six dimensions
-    ∷ record { file = chunked_by 1 layout_sum ++ node 3 0 ++ last_key; offsets = 2; lengths = 2; end = 200; outcome = found 1 24 }
-    ∷ record { file = chunked_by 1 layout_sum ++ node 0 1 ++ leads_to 9; offsets = 2; lengths = 2; end = 200; outcome = refused 3 }
-    ∷ record { file = chunked_by 6 (0x3F ∷ 0x27 ∷ 0xE3 ∷ 0xFE ∷ []) ++ node 0 0 ++ last_key; offsets = 2; lengths = 2; end = 200; outcome = refused 13 }
     ∷ []
 
 -- what a function gives at each case
@@ -135,5 +98,5 @@ each f (c ∷ cs) = f c ∷ each f cs
 
 -- the definition gives each marked case its outcome
 pub marked_cases : each given marked ≡ each (λ c. c.outcome) marked
-unfolding le read bind times cond group_info address defined_address continuation compact data_from raw_data_lem contiguous chunked data_layout offset trees.offsets trees.key mark entry_count placed keyed trees.entries child chunk leads trees.entry root chunk_list list_for data_type type_layer data_type_header known_type known_class properties plain data_space data_space2 dimensions dimensions_from dimension maximum_sizes ochk block_end header_end plus minus rotate mix_line mix final_line final_mix add_block blocks sum_of sum_matches hold entry_by run_by block_by entry_at run_at walk entry prefix creation_order closed message_held continuation_held body plain_body layout_body ohdr header_fields header decode
+unfolding le read bind times cond group_info address defined_address continuation data_from raw_data_lem contiguous data_layout data_type type_layer data_type_header known_type known_class properties plain data_space data_space2 dimensions dimensions_from dimension maximum_sizes ochk block_end header_end plus minus rotate mix_line mix final_line final_mix add_block blocks sum_of sum_matches hold entry_by run_by block_by entry_at run_at walk entry prefix creation_order closed message_held continuation_held body plain_body layout_body ohdr header_fields header decode
 marked_cases = refl

@@ -1,14 +1,13 @@
--- Without tables a header is refused with 3 to 13, 15 to 23, 28 or 30 to 32, by the tests of its fields, its messages and the walk. Assumes nothing.
+-- Without a table a header is refused with 3 to 23 or 28, by the tests of its fields, its messages and the walk. Assumes nothing.
 use Prim.Native.Nat.{ℕ, zero, suc, ◌+◌, ◌-◌, ◌%◌}
-use Rattle.std.specs.Prelude.{◌≡◌, Bool, true, false, not, ◌&&◌, ◌||◌, List, [], ◌++◌, length, replicate, set, leb, ltb}
+use Rattle.std.specs.Prelude.{◌≡◌, Bool, true, false, not, ◌&&◌, ◌||◌, List, ◌++◌, length, replicate, set, leb, ltb}
 use Rattle.std.proofs.Math.Path.{refl}
 use Rattle.std.specs.Int.Bits.{bit_and}
 use Rattle.std.proofs.Math.Dec.{eqb}
 use Rattle.format.specs.Bits.{bit}
 use Rattle.format.specs.Bytes.{all_ones}
-use Rattle.format.specs.Format.{Format, done, refuse, number, bytes, Out, found, refused, read, nothing, bind, check}
+use Rattle.format.specs.Format.{Format, done, refuse, number, Out, found, refused, read, nothing, bind, check}
 use Rattle.format.specs.Refusals.{RefusedWith, RefusesWith}
-use Rattle.format.specs.Rooms.{Room, free, less, any, at_most}
 use Rattle.records.specs.declared.Address.{Address}
 use Rattle.records.specs.declared.Address.TheVariants as addresses
 use Rattle.helpers.specs.Addresses.{address, defined, defined_address}
@@ -16,16 +15,7 @@ use Rattle.parser.specs.declared.State.{State}
 use Rattle.parser.specs.States.{address_valid}
 use Rattle.ohdr_info.specs.Info.{cond, cond_address, link_info, group_info, attribute_info}
 use Rattle.ohdr_storage.specs.Storage.{fill_value, fill12, fill3, fill, filter1, filter2, filter_of, reserved, filter_pipeline}
-use Rattle.records.specs.declared.OptionAddress.{OptionAddress}
-use Rattle.records.specs.declared.OptionAddress.TheVariants as option_addresses
-use Rattle.records.specs.declared.LayoutData.{LayoutData}
-use Rattle.records.specs.declared.LayoutData.TheVariants as layouts
-use Rattle.records.specs.declared.DataLayout.{DataLayout}
-use Rattle.chunk_row.specs.declared.Key.{Key}
-use Rattle.chunk_row.specs.declared.Chunk.{Chunk}
-use Rattle.ohdr_layout.specs.DataLayouts.{compact, data_from, raw_data_lem, contiguous, chunked, data_layout}
-use Rattle.chunk_tree.specs.Tree.{offset, offsets, key, mark, entry_count, placed, keyed, entries, child, chunk, leads, root, chunk_list, list_for, layout_chunks}
-use Rattle.chunk_tree.specs.Tree as trees
+use Rattle.ohdr_layout.specs.DataLayouts.{compact, data_from, raw_data_lem, contiguous, data_layout}
 use Rattle.ohdr_member.specs.Members.{member1, member3, member_fields}
 use Rattle.ohdr_datatype.specs.declared.DataTypeHeader.{DataTypeHeader}
 use Rattle.ohdr_datatype.specs.DataTypes.{class_of, version_of, known_type, ieee, data_type_header, fixed_properties, float_properties, float_format, member, plain, list_properties, properties, type_layer, data_type, type_levels}
@@ -34,7 +24,7 @@ use Rattle.ohdr_dataspace.specs.DataSpaces.{dimension, dimensions_from, dimensio
 use Rattle.ohdr_attribute.specs.Attributes.{name_and_value, encoding, attribute_fields, attribute}
 use Rattle.grammar.specs.Message.{Held, message, continuation as continued}
 use Rattle.grammar.specs.Grammar.{Source, Item, ochk, block_levels, block_end, header_end}
-use Rattle.grammar.specs.Walk.{choose, Went, reached, stopped, and_then, begun, Count, counted, opened, without_table, start, budget, hold, entry_by, run_by, block_by, entry_at, run_at, walk}
+use Rattle.grammar.specs.Walk.{choose, Went, reached, stopped, and_then, begun, Count, counted, opened, without_table, start, hold, entry_by, run_by, block_by, entry_at, run_at, walk}
 use Rattle.ohdr_entry.specs.Continuations.{continuation}
 use Rattle.ohdr_entry.specs.declared.Prefix.{Prefix}
 use Rattle.ohdr_entry.specs.Entries.{plain_body, layout_body, attribute_body, body, creation_order, prefix, message_held, continuation_held, closed, entry}
@@ -50,14 +40,6 @@ As F = RefusesWith of_header F
 address_as : (w : ℕ) → As (address w)
 unfolding address
 address_as w = λ n. tt
-
-defined_address_as : (w n : ℕ) → of_header n ≡ true → As (defined_address w n)
-unfolding defined_address
-defined_address_as w n e = bind_refuses of_header (address w) (defined n) (address_as w) given
-  where
-    given : (a : Address) → As (defined n a)
-    given addresses.Undefined = e
-    given (addresses.Number v) = tt
 
 cond_as : (t : Bool) (w : ℕ) → As (cond t w)
 unfolding cond
@@ -146,76 +128,11 @@ contiguous_as s = bind_refuses of_header (address s.size_of_offsets) _ (address_
     bind_refuses of_header (raw_data_lem s size a) _ (raw_data_as s size a) (λ _. tt)))
 
 layout_as : (s : State) → As (data_layout s)
-unfolding data_layout compact chunked
+unfolding data_layout compact
 layout_as s = λ version. check_refuses of_header (eqb version 3) 13 _ refl (λ class.
-    pick_refuses of_header (eqb class 0) compact _ (λ size position. bind_refuses of_header (bytes size nothing) _ tt (λ _. tt)) (
+    pick_refuses of_header (eqb class 0) compact _ (λ size. tt) (
     pick_refuses of_header (eqb class 1) (contiguous s) _ (contiguous_as s) (
-    pick_refuses of_header (eqb class 2) (chunked s) (refuse 13)
-    (λ d. check_refuses of_header (leb 1 d && leb d 5) 13 _ refl (bind_refuses of_header (address s.size_of_offsets) _ (address_as s.size_of_offsets) (λ _. tt))) refl)))
-
--- the tree of chunks
-module _ (s : State) (d : ℕ) where
-  offset_as : (i : ℕ) → As (offset i d)
-  unfolding offset
-  offset_as i = pick_refuses of_header (ltb i d) (number 8 done) (done 0) (λ _. tt) tt
-
-  key_as : As (key d)
-  unfolding key offsets
-  key_as = λ _ _. bind_refuses of_header (offsets d) _
-      (bind_refuses of_header (offset 0 d) _ (offset_as 0) (λ _.
-      bind_refuses of_header (offset 1 d) _ (offset_as 1) (λ _.
-      bind_refuses of_header (offset 2 d) _ (offset_as 2) (λ _.
-      bind_refuses of_header (offset 3 d) _ (offset_as 3) (λ _.
-      bind_refuses of_header (offset 4 d) _ (offset_as 4) (λ _. tt))))))
-      (λ _. tt)
-
-  mark_as : As mark
-  unfolding mark
-  mark_as = λ signature. check_refuses of_header (eqb signature 0x45455254) 30 _ refl (λ type. check_refuses of_header (eqb type 1) 30 _ refl (λ _. tt))
-
-  count_as : (least : ℕ) → As (entry_count s least)
-  unfolding entry_count
-  count_as least = λ n. check_refuses of_header (leb least n) 30 _ refl (λ _ _. tt)
-
-  placed_as : As (placed s)
-  unfolding placed
-  placed_as = bind_refuses of_header (defined_address s.size_of_offsets 30) _ (defined_address_as s.size_of_offsets 30 refl) (λ a. check_refuses of_header (address_valid s a) 30 _ refl tt)
-
-  keyed_as : (L : Key → ℕ → Format (List Chunk)) → ((k : Key) (a : ℕ) → As (L k a)) → As (keyed s d L)
-  unfolding keyed
-  keyed_as L h = bind_refuses of_header (key d) _ key_as (λ k. bind_refuses of_header (placed s) _ placed_as (h k))
-
-  entries_as : (E : Room → Format (List Chunk)) → ((r : Room) → As (E r)) → (n : ℕ) (r : Room) → As (entries d E n r)
-  unfolding entries
-  entries_as E h zero r = bind_refuses of_header (key d) _ key_as (λ _. tt)
-  entries_as E h (suc n) r = bind_refuses of_header (E r) _ (h r) (λ xs. bind_refuses of_header (entries d E n (less r (length xs))) _ (entries_as E h n (less r (length xs))) (λ _. tt))
-
-  child_as : (level : ℕ) (E : Room → Format (List Chunk)) → ((r : Room) → As (E r)) → (r : Room) → As (child s d level E r)
-  unfolding child
-  child_as level E h r = bind_refuses of_header mark _ mark_as (λ v. check_refuses of_header (eqb v level) 31 _ refl (bind_refuses of_header (entry_count s 1) _ (count_as 1) (λ n. entries_as E h n r)))
-
-  leads_as : (level : ℕ) (r : Room) (k : Key) (a : ℕ) → As (leads s d level r k a)
-  unfolding leads chunk
-  leads_as zero r k a = check_refuses of_header (free r) 32 _ refl tt
-  leads_as (suc level) r k a = (child_as level (λ x. keyed s d (leads s d level x)) (λ x. keyed_as (leads s d level x) (leads_as level x)) r, λ _. tt)
-
-  root_as : (r : Room) → As (root s d r)
-  unfolding root trees.entry
-  root_as r = bind_refuses of_header mark _ mark_as (λ level. bind_refuses of_header (entry_count s 0) _ (count_as 0) (λ n. entries_as (trees.entry s d level) (λ x. keyed_as (leads s d level x) (leads_as level x)) n r))
-
-  list_as : (r : Room) (a : Address) → As (chunk_list s d r a)
-  unfolding chunk_list
-  list_as r addresses.Undefined = tt
-  list_as r (addresses.Number a) = pick_refuses of_header (address_valid s a) _ (done []) (root_as r, λ _. tt) tt
-
-chunks_as : (s : State) (r : Room) (l : DataLayout) → As (layout_chunks s r l)
-unfolding list_for
-chunks_as s r l = go l.«data» l.address
-  where
-    go : (x : LayoutData) (a : OptionAddress) → As (list_for s r x a)
-    go (layouts.Part p) a = tt
-    go (layouts.Chunks d) option_addresses.None = tt
-    go (layouts.Chunks d) (option_addresses.Some a) = list_as s d r a
+    pick_refuses of_header (eqb class 2) (refuse 14) (refuse 13) refl refl)))
 
 type_header_as : As data_type_header
 unfolding data_type_header
@@ -299,10 +216,14 @@ unfolding attribute name_and_value
 attribute_as s = bind_refuses of_header attribute_fields _ attribute_fields_as (λ f _ _. (λ _. tt, tt))
 
 continuation_as : (s : State) → As (continuation s)
-unfolding continuation
-continuation_as s = bind_refuses of_header (defined_address s.size_of_offsets 19) _ (defined_address_as s.size_of_offsets 19 refl) (λ offset.
+unfolding continuation defined_address
+continuation_as s = bind_refuses of_header (defined_address s.size_of_offsets 19) _ (bind_refuses of_header (address s.size_of_offsets) (defined 19) (address_as s.size_of_offsets) defined_as) (λ offset.
     check_refuses of_header (address_valid s offset) 19 _ refl (λ length.
     check_refuses of_header (leb 8 length && leb (offset + length) s.end_of_file_address) 19 _ refl tt))
+  where
+    defined_as : (a : Address) → As (defined 19 a)
+    defined_as addresses.Undefined = refl
+    defined_as (addresses.Number n) = tt
 
 -- an entry by itself
 plain_body_as : (s : State) (type : ℕ) → As (plain_body s type)
@@ -317,10 +238,10 @@ plain_body_as s type =
     pick_refuses of_header (eqb type 11) _ _ (bind_refuses of_header filter_pipeline _ filters_as (λ _. tt)) (
     pick_refuses of_header (eqb type 21) _ _ (bind_refuses of_header (attribute_info s) _ (attribute_info_as s) (λ _. tt)) tt)))))))
 
-body_as : (s : State) (r : Room) (type : ℕ) → As (body s r type)
+body_as : (s : State) (type : ℕ) → As (body s type)
 unfolding body layout_body attribute_body
-body_as s r type =
-    pick_refuses of_header (eqb type 8) _ _ (bind_refuses of_header (data_layout s) _ (layout_as s) (λ l. bind_refuses of_header (layout_chunks s r l) _ (chunks_as s r l) (λ _. tt))) (
+body_as s type =
+    pick_refuses of_header (eqb type 8) _ _ (bind_refuses of_header (data_layout s) _ (layout_as s) (λ _. tt)) (
     pick_refuses of_header (eqb type 12) _ _ (bind_refuses of_header (attribute s) _ (attribute_as s) (λ _. tt)) (
     plain_body_as s type))
 
@@ -333,12 +254,12 @@ unfolding prefix creation_order
 prefix_as header-flags = λ _ _ flags. check_refuses of_header (eqb (bit_and flags 0b11111010) 0) 8 _ refl (
     bind_refuses of_header (creation_order header-flags) _ (pick_refuses of_header (bit header-flags 2) _ nothing (λ _. tt) tt) (λ _. tt))
 
-entry_as : (s : State) (flags : ℕ) (r : Room) → As (entry s flags r)
+entry_as : (s : State) (flags : ℕ) → As (entry s flags)
 unfolding entry message_held continuation_held
-entry_as s flags r = bind_refuses of_header (prefix flags) _ (prefix_as flags) (λ x b.
+entry_as s flags = bind_refuses of_header (prefix flags) _ (prefix_as flags) (λ x b.
     pick_refuses of_header (eqb x.kind 16) _ _
     (closed_as continuation_held s x b (bind_refuses of_header (continuation s) _ (continuation_as s) (λ _. tt)))
-    (closed_as (message_held r) s x b (bind_refuses of_header (body s r x.kind) _ (body_as s r x.kind) (λ _. tt))))
+    (closed_as message_held s x b (bind_refuses of_header (body s x.kind) _ (body_as s x.kind) (λ _. tt))))
 
 -- the same of what a walk gives
 abbrev pub StopsWith : {A : Type 0} → Went A → Type 0
@@ -357,8 +278,8 @@ choose_as : {A : Type 0} (t : Bool) (a b : Unit {0} → Went A) → StopsWith (a
 choose_as true a b h g = h
 choose_as false a b h g = g
 
--- a walk without tables
-module _ (src : Source) (one : (r : Room) → As (src.entry r)) where
+-- a walk without a table
+module _ (src : Source) (one : As src.entry) where
   reads : {A : Type 0} (n : ℕ) (F : Format A) (p : ℕ) → As F → StopsWith (begun n (read src.file F p))
   reads n F p h = begun_as n (read src.file F p) (read_refused of_header refl src.file F p h)
 
@@ -371,8 +292,7 @@ module _ (src : Source) (one : (r : Room) → As (src.entry r)) where
   unfolding entry_by
   entry_by_as block b p s =
       choose_as (ltb s.entries 4096) _ _
-      (then_as (begun (s.entries + 1) (read src.file (src.entry (at_most (budget without_table s.chunks))) p)) (hold src without_table block s p)
-      (reads (s.entries + 1) (src.entry (at_most (budget without_table s.chunks))) p (one (at_most (budget without_table s.chunks)))) (hold_as block b s p))
+      (then_as (begun (s.entries + 1) (read src.file src.entry p)) (hold src without_table block s p) (reads (s.entries + 1) src.entry p one) (hold_as block b s p))
       refl
 
   run_by_as : (by : ℕ → Count → Went (List Item)) → ((p : ℕ) (s : Count) → StopsWith (by p s)) → (turns e p : ℕ) (s : Count) → StopsWith (run_by src without_table by turns e p s)

@@ -1,10 +1,10 @@
 -- The largest file, with its number, for every file: above 2,147,483,648 bytes a check, the call and a superblock are 2, and up to there none is; a
 -- width that is not 2 to 8 is 1 whatever the length. Assumes nothing.
-use Rattle.std.specs.Prelude.{ℕ, ◌/◌, ◌-◌, ◌≤◌, ◌<◌, ◌≡◌, Bool, ◌⊎◌, List, length, leb}
+use Rattle.std.specs.Prelude.{ℕ, ◌/◌, ◌-◌, ◌≤◌, ◌<◌, ◌≡◌, Bool, List, length, leb, ltb}
 use Rattle.std.proofs.Math.Path.{refl}
-use Rattle.std.proofs.Common.{ap, ◌∙◌, inl, inr, arith}
+use Rattle.std.proofs.Common.{ap, ◌∙◌, arith}
 use Rattle.std.proofs.Math.Bool.{true, false}
-use borrow.Author.Tests.{le-leb, lt-leb, leb-true}
+use borrow.Author.Tests.{le-leb, lt-leb, leb-true, ltb-true, ltb-false}
 use Rattle.format.specs.Bools.{and_left, and_right}
 use Rattle.format.specs.Refusals.{RefusedWith}
 use Rattle.format.specs.RefusalLaws.{refused_otherwise}
@@ -14,10 +14,8 @@ use Rattle.format.specs.Format.{refused}
 use Rattle.parser.specs.States.{file_limit, width_allowed, state_for}
 use Rattle.super_block.specs.SuperBlocks.{super_block_of}
 use Rattle.row.specs.Rows.{row_words}
-use Rattle.chunk_row.specs.Chunks.{chunk_row}
 use Rattle.grammar.specs.Grammar.{Item}
-use Rattle.grammar.specs.Walk.{Went, reached, stopped, Limits, entry_limit, lent, without_table}
-use Rattle.grammar.specs.Beside.{Back, TooFew, enough_or, Beside, nothing_had}
+use Rattle.grammar.specs.Walk.{Went, reached, stopped, Limits, lent, without_table}
 use Rattle.data_object_header.specs.Headers.{header, decode}
 use Rattle.data_object_header.specs.Passing.{decode_beside}
 use Rattle.data_object_check.specs.declared.CheckAnswer.{CheckAnswer}
@@ -74,22 +72,16 @@ module _ (file : List ℕ) (offsets lengths end at : ℕ) where
     check_within_the_limit w h = refused_otherwise of_header 2 (check_out a) refl (check_refusals w h)
 
   -- the call
-  module _ (n k : ℕ) (o : DataObject) (t c : List ℕ) (d : Decoded file offsets lengths end at n k o t c) where
-    abbrev by : Limits
-    by = lent (n / row_words) (k / chunk_row)
-
+  module _ (n : ℕ) (o : DataObject) (t : List ℕ) (d : Decoded file offsets lengths end at n o t) where
     pub call_of_a_bad_width : (BothAllowed offsets lengths → ⊥) → answer_out o.answer ≡ refused 1
-    call_of_a_bad_width f = d.answer ∙ ap counts (bad by f)
+    call_of_a_bad_width f = d.answer ∙ ap counts (bad (lent (n / row_words)) f)
 
     pub call_above_the_limit : BothAllowed offsets lengths → 2147483648 < length file → answer_out o.answer ≡ refused 2
-    call_above_the_limit w h = d.answer ∙ ap counts (above by w h)
+    call_above_the_limit w h = d.answer ∙ ap counts (above (lent (n / row_words)) w h)
 
     pub call_refusals : BothAllowed offsets lengths → length file ≤ 2147483648 → RefusedWith with_table (answer_out o.answer)
-    call_refusals w h = rw d.answer (go (enough_or (n / row_words) b.taken (k / chunk_row) b.long))
+    call_refusals w h = rw d.answer (go (ltb (n / row_words) (decode_beside file offsets lengths end at).taken) refl)
       where
-        b : Beside entry_limit nothing_had nothing_had (decode file offsets lengths end at without_table) (λ n k. decode file offsets lengths end at (lent n k))
-        b = decode_beside file offsets lengths end at
-
         with_table_lem : (r : ℕ) → of_header r ≡ true → with_table r ≡ true
         with_table_lem r e = rw e
 
@@ -97,20 +89,16 @@ module _ (file : List ℕ) (offsets lengths end at : ℕ) where
         same (reached xs q) s = tt
         same (stopped r m) s = with_table_lem r s
 
-        back : (w : Went (List Item)) → Back w → RefusedWith with_table (counts w)
-        back w (m, inl e) = rw e refl
-        back w (m, inr e) = rw e refl
-
-        go : ((b.taken ≤ n / row_words) × (b.long ≤ k / chunk_row)) ⊎ TooFew (n / row_words) b.taken (k / chunk_row) b.long → RefusedWith with_table (counts (decode file offsets lengths end at by))
-        go (inl i) = rw (b.enough (n / row_words) (k / chunk_row) i.0 i.1) (same (decode file offsets lengths end at without_table) (checks_as w h))
-        go (inr i) = back (decode file offsets lengths end at by) (b.full (n / row_words) (k / chunk_row) (omega arith) (omega arith) i)
+        go : (u : Bool) → ltb (n / row_words) (decode_beside file offsets lengths end at).taken ≡ u → RefusedWith with_table (counts (decode file offsets lengths end at (lent (n / row_words))))
+        go true e =
+            let b = decode_beside file offsets lengths end at in
+            rw (b.full (n / row_words) (omega arith) (ltb-true (n / row_words) b.taken e)).1 refl
+        go false e =
+            let b = decode_beside file offsets lengths end at in
+            rw (b.enough (n / row_words) (ltb-false (n / row_words) b.taken e)) (same (decode file offsets lengths end at without_table) (checks_as w h))
 
     pub call_within_the_limit : BothAllowed offsets lengths → length file ≤ 2147483648 → answer_out o.answer ≡ refused 2 → ⊥
     call_within_the_limit w h = refused_otherwise with_table 2 (answer_out o.answer) refl (call_refusals w h)
-
-    -- 14 is never met
-    pub call_not_14 : BothAllowed offsets lengths → length file ≤ 2147483648 → answer_out o.answer ≡ refused 14 → ⊥
-    call_not_14 w h = refused_otherwise with_table 14 (answer_out o.answer) refl (call_refusals w h)
 
 -- the superblock
 module _ (file : List ℕ) where

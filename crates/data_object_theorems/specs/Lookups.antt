@@ -60,7 +60,7 @@ named messages.nothing p e = let z : ◌≡◌ {A = ℕ} 0 1 = cc in absurd (ome
 named (messages.data_space x) p e = let z : ◌≡◌ {A = ℕ} 0 1 = cc in absurd (omega arith)
 named (messages.link_info x) p e = let z : ◌≡◌ {A = ℕ} 0 1 = cc in absurd (omega arith)
 named (messages.data_type x) p e = let z : ◌≡◌ {A = ℕ} 0 1 = cc in absurd (omega arith)
-named (messages.data_layout x cs) p e = let z : ◌≡◌ {A = ℕ} 0 1 = cc in absurd (omega arith)
+named (messages.data_layout x) p e = let z : ◌≡◌ {A = ℕ} 0 1 = cc in absurd (omega arith)
 named (messages.group_info x) p e = let z : ◌≡◌ {A = ℕ} 0 1 = cc in absurd (omega arith)
 named (messages.attribute a) p e = let d : a.name ≡ p = cc in (a, refl, d)
 named (messages.attribute_info x) p e = let z : ◌≡◌ {A = ℕ} 0 1 = cc in absurd (omega arith)
@@ -84,7 +84,7 @@ pub record FirstBearing (file name : List ℕ) (ms : List Message) (i : ℕ) : T
   pub before : (j : ℕ) (m : Message) → j < i → MessageAt ms j m → BearsName file name m → ⊥
 
 -- over an accepted header, its table and the rows that it fills
-module _ (file : List ℕ) (offsets lengths end at n k : ℕ) {next count : ℕ} {r : DataObject} {t c : List ℕ} (a : Accepted file offsets lengths end at n k next count r t c) (name : List ℕ) where
+module _ (file : List ℕ) (offsets lengths end at n : ℕ) {next count : ℕ} {r : DataObject} {t : List ℕ} (a : Accepted file offsets lengths end at n next count r t) (name : List ℕ) where
   row_of_lem : (i : ℕ) (m : Message) → MessageAt (messages_of a.items) i m → row_at t i ≡ row_of m
   row_of_lem i m h = ap (λ (x : List ℕ). row_at x i) a.table ∙ row_is (messages_of a.items) (replicate (n - length (rows_of a.items) * row_words) 0) i m h
 

@@ -1,9 +1,9 @@
 -- Which numbers a header is refused with. Assumes nothing: these are definitions.
-use Rattle.std.specs.Prelude.{ℕ, ◌≤◌, Bool, not, ◌&&◌, ◌||◌, eqb, leb}
+use Rattle.std.specs.Prelude.{ℕ, ◌≤◌, Bool, ◌&&◌, ◌||◌, eqb, leb}
 
--- once its widths and its file's size are passed: without tables 3 to 23, of which 14 is never met, 28 and 30 to 32, and with a table 24 too
+-- once its widths and its file's size are passed: without a table 3 to 23 and 28, and with one 24 too
 abbrev pub of_header : ℕ → Bool
-of_header n = (leb 3 n && (leb n 23 && not (eqb n 14))) || (eqb n 28 || (leb 30 n && leb n 32))
+of_header n = leb 3 n && (leb n 23 || eqb n 28)
 
 abbrev pub with_table : ℕ → Bool
 with_table n = of_header n || eqb n 24

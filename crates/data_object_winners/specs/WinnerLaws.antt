@@ -1,9 +1,9 @@
 -- The records that are read at the bodies of the last rows are those that win, since a row's body is its message's, and what a message keeps
 -- stands in its body. Assumes nothing.
 use Rattle.std.specs.Prelude.{ℕ, zero, suc, ◌≡◌, Bool, true, false, ◌⊎◌, List, [], ◌∷◌, ◌++◌, map, length, eqb}
-use Rattle.std.proofs.Math.Path.{refl, sym, ap}
-use Rattle.std.proofs.Common.{◌∙◌, subst, eqb-true}
-use Rattle.std.proofs.Math.Logic.{inl, inr}
+use Rattle.std.proofs.Math.Path.{refl}
+use Rattle.std.proofs.Common.{sym, ap, ◌∙◌, inr, eqb-true}
+use Rattle.std.proofs.Math.Logic.{inl}
 use native.Mathlib.Omega.{arith}
 use Rattle.std.proofs.lemmas.List.{length-map}
 use Rattle.std.proofs.lemmas.Bool.{eqb-false}
@@ -25,10 +25,6 @@ use Rattle.data_object_header.specs.Headers.{HeaderReading}
 use Rattle.ohdr_info.specs.Info.{link_info, group_info, attribute_info}
 use Rattle.ohdr_storage.specs.Storage.{fill_old, fill, filter_pipeline}
 use Rattle.ohdr_layout.specs.DataLayouts.{data_layout}
-use Rattle.format.specs.Rooms.{any}
-use Rattle.records.specs.declared.DataLayout.{DataLayout}
-use Rattle.chunk_row.specs.declared.Chunk.{Chunk}
-use Rattle.chunk_tree.specs.Tree.{layout_chunks}
 use Rattle.ohdr_datatype.specs.DataTypes.{data_type, type_levels}
 use Rattle.ohdr_dataspace.specs.DataSpaces.{data_space}
 use Rattle.ohdr_attribute.specs.Attributes.{attribute}
@@ -64,7 +60,7 @@ type_of messages.nothing = 0
 type_of (messages.data_space d) = 1
 type_of (messages.link_info l) = 2
 type_of (messages.data_type t) = 3
-type_of (messages.data_layout d cs) = 8
+type_of (messages.data_layout d) = 8
 type_of (messages.group_info g) = 10
 type_of (messages.attribute a) = 12
 type_of (messages.attribute_info a) = 21
@@ -105,19 +101,11 @@ module _ (file : List ℕ) (s : State) where
       either type 21 p q k _ _ h (keeps_record (attribute_info s) messages.attribute_info type 21 p q k (λ a. refl)) (λ h.
       inl (ap type_of (sym h.1))))))))))
 
-  -- a layout's record is read by itself, whatever its chunks are
-  layout_kept : (p q : ℕ) (k : Kept) → Stands file (layout_body s any) p q k → (l : DataLayout) × (cs : List Chunk) × (m : ℕ) × (messages.data_layout l cs ≡ k) × (read file (data_layout s) p ≡ found l m)
-  unfolding layout_body
-  layout_kept p q k h =
-      let w = stands_bind file (data_layout s) _ p q k h in
-      let v = stands_bind file (layout_chunks s any w.1) _ w.0 q k w.3 in
-      (w.1, v.1, w.0, v.3.1, complete file (data_layout s) p w.0 w.1 w.2)
-
   -- the record of a body is one of its type, or there is none
-  pub typed : (type p q : ℕ) (k : Kept) → Stands file (body s any type) p q k → Typed type k
-  unfolding body attribute_body
+  pub typed : (type p q : ℕ) (k : Kept) → Stands file (body s type) p q k → Typed type k
+  unfolding body layout_body attribute_body
   typed type p q k h =
-      either type 8 p q k _ _ h (λ e h. let w = layout_kept p q k h in inr (ap type_of (sym w.3) ∙ sym e)) (λ h.
+      either type 8 p q k _ _ h (keeps_record (data_layout s) messages.data_layout type 8 p q k (λ a. refl)) (λ h.
       either type 12 p q k _ _ h (keeps_record (attribute s) messages.attribute type 12 p q k (λ a. refl)) (λ h.
       plain_typed type p q k h))
 
@@ -156,7 +144,7 @@ module _ (file : List ℕ) (s : State) where
   all_bodied h = reading_each (source file s h.fields.flags) (Bodied file s) (λ p q m e. bodied file s h.fields.flags p q m e) h.rest
 
   -- a body that is one record by itself
-  by_body : {A : Type 0} (F : Format A) (con : A → Kept) (n : ℕ) (a₀ : A) (f : Wins → A) → body s any n ≡ bind F (λ a. done (con a)) → ((a : A) (w : Wins) → f (win (con a) w) ≡ a)
+  by_body : {A : Type 0} (F : Format A) (con : A → Kept) (n : ℕ) (a₀ : A) (f : Wins → A) → body s n ≡ bind F (λ a. done (con a)) → ((a : A) (w : Wins) → f (win (con a) w) ≡ a)
       → (m : Message) → Bodied file s m → m.type ≡ n → (w : Wins) → value_or a₀ (read file F m.body) ≡ f (win m.kept w)
   by_body F con n a₀ f d puts m b e w =
       let h : Stands file (bind F (λ a. done (con a))) m.body b.upto m.kept = rw (sym d, sym e) b.stands in
@@ -177,7 +165,7 @@ module _ (file : List ℕ) (s : State) where
   apart (messages.data_space d) w = record { ds = λ n. absurd (n refl); dt = λ n. refl; li = λ n. refl; gi = λ n. refl; ai = λ n. refl; layout = λ n. refl }
   apart (messages.link_info l) w = record { ds = λ n. refl; dt = λ n. refl; li = λ n. absurd (n refl); gi = λ n. refl; ai = λ n. refl; layout = λ n. refl }
   apart (messages.data_type t) w = record { ds = λ n. refl; dt = λ n. absurd (n refl); li = λ n. refl; gi = λ n. refl; ai = λ n. refl; layout = λ n. refl }
-  apart (messages.data_layout d cs) w = record { ds = λ n. refl; dt = λ n. refl; li = λ n. refl; gi = λ n. refl; ai = λ n. refl; layout = λ n. absurd (n refl) }
+  apart (messages.data_layout d) w = record { ds = λ n. refl; dt = λ n. refl; li = λ n. refl; gi = λ n. refl; ai = λ n. refl; layout = λ n. absurd (n refl) }
   apart (messages.group_info g) w = record { ds = λ n. refl; dt = λ n. refl; li = λ n. refl; gi = λ n. absurd (n refl); ai = λ n. refl; layout = λ n. refl }
   apart (messages.attribute a) w = record { ds = λ n. refl; dt = λ n. refl; li = λ n. refl; gi = λ n. refl; ai = λ n. refl; layout = λ n. refl }
   apart (messages.attribute_info a) w = record { ds = λ n. refl; dt = λ n. refl; li = λ n. refl; gi = λ n. refl; ai = λ n. absurd (n refl); layout = λ n. refl }
@@ -202,11 +190,6 @@ module _ (file : List ℕ) (s : State) where
   unfolding body plain_body
   info_won = record { here = by_body (attribute_info s) messages.attribute_info 21 default_attribute_info (λ w. w.ai) refl (λ a w. refl); apart = λ k n w. (apart k w).ai n; some = λ e. omega arith }
 
-  by_layout : (m : Message) → Bodied file s m → m.type ≡ 8 → (w : Wins) → value_or default_data_layout (read file (data_layout s) m.body) ≡ (win m.kept w).layout
-  unfolding body
-  by_layout m b e w =
-      let v = layout_kept m.body b.upto m.kept (subst (λ (type : ℕ). Stands file (body s any type) m.body b.upto m.kept) e b.stands) in
-      ap (value_or default_data_layout) v.4 ∙ ap (λ (k : Kept). (win k w).layout) v.3
-
   pub layout_won : Won 8 (data_layout s) default_data_layout (λ w. w.layout)
-  layout_won = record { here = by_layout; apart = λ k n w. (apart k w).layout n; some = λ e. omega arith }
+  unfolding body layout_body
+  layout_won = record { here = by_body (data_layout s) messages.data_layout 8 default_data_layout (λ w. w.layout) refl (λ a w. refl); apart = λ k n w. (apart k w).layout n; some = λ e. omega arith }

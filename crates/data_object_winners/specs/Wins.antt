@@ -29,7 +29,7 @@ win messages.nothing w = w
 win (messages.data_space d) w = record { ds = d; dt = w.dt; li = w.li; gi = w.gi; ai = w.ai; layout = w.layout }
 win (messages.link_info l) w = record { ds = w.ds; dt = w.dt; li = l; gi = w.gi; ai = w.ai; layout = w.layout }
 win (messages.data_type t) w = record { ds = w.ds; dt = t; li = w.li; gi = w.gi; ai = w.ai; layout = w.layout }
-win (messages.data_layout d cs) w = record { ds = w.ds; dt = w.dt; li = w.li; gi = w.gi; ai = w.ai; layout = d }
+win (messages.data_layout d) w = record { ds = w.ds; dt = w.dt; li = w.li; gi = w.gi; ai = w.ai; layout = d }
 win (messages.group_info g) w = record { ds = w.ds; dt = w.dt; li = w.li; gi = g; ai = w.ai; layout = w.layout }
 win (messages.attribute a) w = w
 win (messages.attribute_info a) w = record { ds = w.ds; dt = w.dt; li = w.li; gi = w.gi; ai = a; layout = w.layout }

@@ -10,10 +10,10 @@ use Rattle.data_object.specs.Decoded.{Decoded}
 use Rattle.record_words.specs.Words.{elements_words}
 use Rattle.data_object_words.specs.Words.{words_of}
 
--- the words w of what decoding yields, which leaves t of a table of n words, and c of a chunk table of k words
-pub record Handed (file : List ℕ) (offsets lengths end at n k : ℕ) (t c w : List ℕ) : Type 0 where
+-- the words w of what decoding yields, which leaves t of a table of n words
+pub record Handed (file : List ℕ) (offsets lengths end at n : ℕ) (t w : List ℕ) : Type 0 where
   pub object : DataObject
-  pub decoded : Decoded file offsets lengths end at n k object t c
+  pub decoded : Decoded file offsets lengths end at n object t
   pub words : w ≡ words_of object
 
 -- the kind and the sizes that the words w of an object tell

@@ -5,13 +5,11 @@ use Rattle.std.proofs.lemmas.List.Edits.{sets, sets-eq}
 use Rattle.records.specs.declared.DataFormat.TheVariants as formats
 use Rattle.records.specs.declared.OptionDataFormat.{OptionDataFormat}
 use Rattle.records.specs.declared.OptionDataFormat.TheVariants as option_formats
-use Rattle.records.specs.declared.LayoutData.{LayoutData}
-use Rattle.records.specs.declared.LayoutData.TheVariants as layouts
 use Rattle.row.specs.RowLaws.{sets-append}
 use Rattle.data_object.specs.declared.Answer.{Answer}
 use Rattle.data_object.specs.declared.Answer.TheVariants as answers
 use Rattle.data_object.specs.declared.DataObject.{DataObject}
-use Rattle.record_words.specs.Words.{data_space_words, format_words, data_type_words, link_info_words, group_info_words, attribute_info_words, layout_data_words, data_layout_words}
+use Rattle.record_words.specs.Words.{data_space_words, format_words, data_type_words, link_info_words, group_info_words, attribute_info_words, data_layout_words}
 use Rattle.data_object_words.specs.Words.{answer_words, words_of}
 
 length-answer : (a : Answer) → length (answer_words a) ≡ 3
@@ -23,12 +21,8 @@ length-format option_formats.None = refl
 length-format (option_formats.Some (formats.Fixed a b)) = refl
 length-format (option_formats.Some (formats.Float a b c d e f g)) = refl
 
-length-data : (d : LayoutData) → length (layout_data_words d) ≡ 3
-length-data (layouts.Part p) = refl
-length-data (layouts.Chunks d) = refl
-
-pub length-words : (o : DataObject) → length (words_of o) ≡ 67
-length-words o = rw (length-append (answer_words o.answer), length-answer, length-append (format_words o.dt.data_fmt), length-format, length-append (layout_data_words o.layout.«data»), length-data)
+pub length-words : (o : DataObject) → length (words_of o) ≡ 65
+length-words o = rw (length-append (answer_words o.answer), length-answer, length-append (format_words o.dt.data_fmt), length-format)
 
 pub rows_word : (o : DataObject) → get_or (words_of o) 3 0 ≡ o.rows
 rows_word o = fourth o.answer o.rows _
@@ -43,12 +37,12 @@ module _ (o : DataObject) (t : List ℕ) where
   placed =
       let records = sets (sets (set (sets t 0 (answer_words o.answer)) 3 o.rows) 4 (data_space_words o.ds)) 20 (data_type_words o.dt) in
       let infos = sets (sets (sets records 33 (link_info_words o.li)) 43 (group_info_words o.gi)) 52 (attribute_info_words o.ai) in
-      set (sets infos 60 (data_layout_words o.layout)) 66 o.chunks
+      sets infos 60 (data_layout_words o.layout)
 
   in_order : placed ≡ sets t 0 (words_of o)
-  in_order = rw (sets-append (answer_words o.answer), length-answer, sets-append (format_words o.dt.data_fmt), length-format, sets-append (layout_data_words o.layout.«data»), length-data)
+  in_order = rw (sets-append (answer_words o.answer), length-answer, sets-append (format_words o.dt.data_fmt), length-format)
 
-  pub put_whole : length t ≡ 67 → placed ≡ words_of o
+  pub put_whole : length t ≡ 65 → placed ≡ words_of o
   put_whole l =
       in_order
       ∙ sets-eq (words_of o) t 0 (omega (arith, length-words o))

@@ -17,8 +17,8 @@ use Rattle.data_object_words.specs.Laws.{rows_word}
 use Rattle.data_object_words.specs.Handed.{Handed, TrueWords}
 
 -- the rows that the words tell of are in the table
-pub rows_told : {file : List ℕ} {offsets lengths end at n k : ℕ} {t c w : List ℕ} → Handed file offsets lengths end at n k t c w → get_or w 3 0 ≤ n / row_words
-rows_told {file} {offsets} {lengths} {end} {at} {n} {k} {t} {c} h = rw (h.words, rows_word) (rows_room file offsets lengths end at n k h.object t c h.decoded)
+pub rows_told : {file : List ℕ} {offsets lengths end at n : ℕ} {t w : List ℕ} → Handed file offsets lengths end at n t w → get_or w 3 0 ≤ n / row_words
+rows_told {file} {offsets} {lengths} {end} {at} {n} {t} h = rw (h.words, rows_word) (rows_room file offsets lengths end at n h.object t h.decoded)
 
 -- four words by their places are the list
 four : (xs : List ℕ) → length xs ≡ 4 → (get_or xs 0 0 ∷ get_or xs 1 0 ∷ get_or xs 2 0 ∷ get_or xs 3 0 ∷ []) ≡ xs

@@ -18,4 +18,4 @@ words_of o =
     ++ (o.rows
     ∷ (data_space_words o.ds
     ++ (data_type_words o.dt
-    ++ (link_info_words o.li ++ (group_info_words o.gi ++ (attribute_info_words o.ai ++ (data_layout_words o.layout ++ (o.chunks ∷ []))))))))
+    ++ (link_info_words o.li ++ (group_info_words o.gi ++ (attribute_info_words o.ai ++ data_layout_words o.layout))))))

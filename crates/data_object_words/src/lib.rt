@@ -1,4 +1,4 @@
-// The words of a decoded object header, for what takes numbers alone: 67 of them, in a lent array.
+// The words of a decoded object header, for what takes numbers alone: 65 of them, in a lent array.
 ghost use Rattle.std.specs.Prelude.{◌≡◌, ◌≤◌, length};
 ghost use Rattle.std.proofs.lemmas.List.Edits.{sets};
 ghost use Rattle.format.specs.Bytes.{AreBytes};
@@ -32,7 +32,7 @@ fn put_answer(words: &mut [u64], answer: Answer)
 }
 
 // All the words of an object, whatever stood in the array before.
-fn put_words(object: DataObject, words: &mut [u64; 67])
+fn put_words(object: DataObject, words: &mut [u64; 65])
     ensures { words.new ≡ words_of object }
 {
     let answer = object.answer;
@@ -44,10 +44,9 @@ fn put_words(object: DataObject, words: &mut [u64; 67])
     put_group_info(words, object.gi);
     put_attribute_info(words, object.ai);
     put_data_layout(words, object.layout);
-    words[66] = object.chunks as u64;
 }
 
-// An object header at a position: its messages in the table, its chunks in the other, and its words. Whoever decodes a header
+// An object header at a position: its messages in the table, and its words. Whoever decodes a header
 // does it by this function, so that the object is nowhere kept but in its words.
 pub fn header_words(
     file: &[u8],
@@ -56,10 +55,9 @@ pub fn header_words(
     length_width: u64,
     end_of_file: u64,
     table: &mut [u64],
-    chunks: &mut [u64],
-    words: &mut [u64; 67],
+    words: &mut [u64; 65],
 )
-    ensures handed { Handed file.now offset_width length_width end_of_file position (length table.old) (length chunks.old) table.new chunks.new words.new }
+    ensures handed { Handed file.now offset_width length_width end_of_file position (length table.old) table.new words.new }
     ensures true_words { TrueWords words.new }
     ensures are_bytes { AreBytes file.now }
 {
@@ -70,7 +68,6 @@ pub fn header_words(
         length_width,
         end_of_file,
         table,
-        chunks,
     );
     put_words(object, words);
 }

@@ -52,17 +52,16 @@ module _ (file table : List ℕ) (rows : ℕ) (text set : List ℕ) (lent : ℕ)
       go names.Answered l e = absurd (f e)
       go (names.Refused q) l e = l.1
 
--- Of a header that is refused every word but the number is that of the defaults, and both tables are all 0.
-module _ {file : List ℕ} {offsets lengths end at n k : ℕ} {t c w : List ℕ} (h : Handed file offsets lengths end at n k t c w) where
-  by_answer : (a : Answer) → h.object.answer ≡ a → Meant file offsets lengths end at n k a h.object t c → (get_or w 0 0 ≡ 0 → ⊥)
-      → (w ≡ refused_words (get_or w 0 0)) × ((t ≡ replicate n 0) × (c ≡ replicate k 0))
+-- Of a header that is refused every word but the number is that of the defaults, and the whole table is 0.
+module _ {file : List ℕ} {offsets lengths end at n : ℕ} {t w : List ℕ} (h : Handed file offsets lengths end at n t w) where
+  by_answer : (a : Answer) → h.object.answer ≡ a → Meant file offsets lengths end at n a h.object t → (get_or w 0 0 ≡ 0 → ⊥)
+      → (w ≡ refused_words (get_or w 0 0)) × (t ≡ replicate n 0)
   by_answer (answers.Read next count) e m f = absurd (f (rw (h.words, e)))
   by_answer (answers.Refused x) e m f = (
     rw (
       h.words,
       e,
       m.rows,
-      m.chunks,
       ap (λ (v : Wins). v.ds) m.records,
       ap (λ (v : Wins). v.dt) m.records,
       ap (λ (v : Wins). v.li) m.records,
@@ -70,17 +69,17 @@ module _ {file : List ℕ} {offsets lengths end at n k : ℕ} {t c w : List ℕ}
       ap (λ (v : Wins). v.ai) m.records,
       ap (λ (v : Wins). v.layout) m.records,
     ),
-    (m.table, m.list),
+    m.table,
   )
 
-  pub refused_words_lem : (get_or w 0 0 ≡ 0 → ⊥) → (w ≡ refused_words (get_or w 0 0)) × ((t ≡ replicate n 0) × (c ≡ replicate k 0))
+  pub refused_words_lem : (get_or w 0 0 ≡ 0 → ⊥) → (w ≡ refused_words (get_or w 0 0)) × (t ≡ replicate n 0)
   refused_words_lem f = by_answer h.object.answer refl h.decoded.meant f
 
 -- The same of a file whose superblock or whose root's header is refused.
-module _ (file : List ℕ) (n k : ℕ) (t c w : List ℕ) where
-  by_block : (o : Out SuperBlock) → HandedBy file n k t c w o → (get_or w 0 0 ≡ 0 → ⊥) → (w ≡ refused_words (get_or w 0 0)) × ((t ≡ replicate n 0) × (c ≡ replicate k 0))
+module _ (file : List ℕ) (n : ℕ) (t w : List ℕ) where
+  by_block : (o : Out SuperBlock) → HandedBy file n t w o → (get_or w 0 0 ≡ 0 → ⊥) → (w ≡ refused_words (get_or w 0 0)) × (t ≡ replicate n 0)
   by_block (found b q) h f = refused_words_lem h f
-  by_block (refused r) h f = (rw h.1.1, (h.0, h.1.0))
+  by_block (refused r) h f = (rw h.1, h.0)
 
-  pub refused_root : HandedRoot file n k t c w → (get_or w 0 0 ≡ 0 → ⊥) → (w ≡ refused_words (get_or w 0 0)) × ((t ≡ replicate n 0) × (c ≡ replicate k 0))
+  pub refused_root : HandedRoot file n t w → (get_or w 0 0 ≡ 0 → ⊥) → (w ≡ refused_words (get_or w 0 0)) × (t ≡ replicate n 0)
   refused_root h f = by_block (super_block_of file) h f

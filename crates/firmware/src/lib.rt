@@ -171,12 +171,12 @@ fn super_block_words(answer: SuperBlockRead) -> SuperBlockWords
 }
 
 // The number that dowringaf.h has as DOWRINGAF_LIBRARY_VERSION.
-const LIBRARY_VERSION: u64 = 2;
+const LIBRARY_VERSION: u64 = 1;
 
 // The version of what C is handed, for a caller to compare with its header's.
 #[unsafe(no_mangle)]
 pub extern "C" fn dowringaf_version() -> u64
-    ensures { result ≡ 2 }
+    ensures { result ≡ 1 }
 {
     LIBRARY_VERSION
 }
@@ -214,23 +214,18 @@ pub extern "C" fn dowringaf_check_root_object(file: &[u8]) -> CheckWords
     check_words(answer)
 }
 
-// The root's object header of a plain file: its messages in the table, its chunks in the other, and
-// its words in the order of `words_of`.
+// The root's object header of a plain file: its messages in the table, and its words in the order
+// of `words_of`.
 #[unsafe(no_mangle)]
-pub extern "C" fn dowringaf_root_object(
-    file: &[u8],
-    table: &mut [u64],
-    chunks: &mut [u64],
-    words: &mut [u64; 67],
-)
-    ensures handed_root { HandedRoot file.now (length table.old) (length chunks.old) table.new chunks.new words.new }
+pub extern "C" fn dowringaf_root_object(file: &[u8], table: &mut [u64], words: &mut [u64; 65])
+    ensures handed_root { HandedRoot file.now (length table.old) table.new words.new }
     ensures true_words { TrueWords words.new }
 {
-    root_words(file, table, chunks, words);
+    root_words(file, table, words);
 }
 
-// An object header at a position: its messages in the table, its chunks in the other, and its words
-// in the order of `words_of`.
+// An object header at a position: its messages in the table, and its words in the order of
+// `words_of`.
 #[unsafe(no_mangle)]
 pub extern "C" fn dowringaf_data_object(
     file: &[u8],
@@ -239,10 +234,9 @@ pub extern "C" fn dowringaf_data_object(
     length_width: u64,
     end_of_file: u64,
     table: &mut [u64],
-    chunks: &mut [u64],
-    words: &mut [u64; 67],
+    words: &mut [u64; 65],
 )
-    ensures handed { Handed file.now offset_width length_width end_of_file position (length table.old) (length chunks.old) table.new chunks.new words.new }
+    ensures handed { Handed file.now offset_width length_width end_of_file position (length table.old) table.new words.new }
     ensures true_words { TrueWords words.new }
 {
     header_words(
@@ -252,7 +246,6 @@ pub extern "C" fn dowringaf_data_object(
         length_width,
         end_of_file,
         table,
-        chunks,
         words,
     );
 }

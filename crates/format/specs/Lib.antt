@@ -10,5 +10,3 @@ pub mod Bits
 pub mod Standing
 pub mod Refusals
 pub mod RefusalLaws
-pub mod Rooms
-pub mod Needs

@@ -5,7 +5,6 @@ use Rattle.std.proofs.Math.Path.{refl, ap}
 use Rattle.std.proofs.Common.{sym, ◌∙◌, arith}
 use borrow.Author.Tests.{leb-true, leb-false, ltb-true}
 use Rattle.format.specs.Format.{found, refused, read}
-use Rattle.format.specs.Rooms.{any}
 use Rattle.grammar.specs.Message.{Held, message, continuation}
 use Rattle.grammar.specs.Grammar.{Source, Item, header_end, One, Entry, is_message, is_continuation}
 use Rattle.grammar.specs.Walk.{Went, reached, stopped, Count, counted, Limits, start, entry_by, run_by, block_by, entry_at, run_at, walk}
@@ -46,7 +45,7 @@ module _ (src : Source) (l : Limits) where
       let few = entry_few levels p q s xs f in
       let v = entry_sound src l levels (25 - levels) (omega arith) p q s xs (omega arith) f in
       let x = stood v.0 in
-      record { more = entry_some src l v.0; few = v.1.few; inside = λ i. covers.inside src.file (src.entry any) p q x.0 x.1 i }
+      record { more = entry_some src l v.0; few = v.1.few; inside = λ i. covers.inside src.file src.entry p q x.0 x.1 i }
 
   -- a run's turns never run out: so many as the entries leave, and one, are as good as more
   enough : (levels : ℕ) → levels ≤ 25 → (t u e p : ℕ) (s : Count) → l.entries < t + s.entries → l.entries < u + s.entries → s.entries ≤ l.entries

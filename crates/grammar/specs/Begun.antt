@@ -2,26 +2,23 @@
 -- Assumes nothing: these are definitions.
 use Rattle.std.specs.Prelude.{ℕ, suc, ◌+◌, ◌-◌, ◌≤◌, ◌<◌, ◌≡◌, false, List, [], ◌∷◌, ◌++◌, length}
 use Rattle.format.specs.Format.{Format, Stands}
-use Rattle.format.specs.Rooms.{any}
-use Rattle.grammar.specs.Message.{Message, message, continuation, chunks_held}
+use Rattle.grammar.specs.Message.{Message, message, continuation}
 use Rattle.grammar.specs.Grammar.{Source, Item, item, ochk, block_levels, block_end, header_end, One, Run, Entry}
-use Rattle.grammar.specs.Table.{messages, chunks_in}
-use Rattle.grammar.specs.Walk.{Count, Limits, Fit, budget}
+use Rattle.grammar.specs.Table.{messages}
+use Rattle.grammar.specs.Walk.{Count, Limits, Fit}
 
--- Why a reading goes no further. At an entry: its own field or its closing does not stand, it lists a chunk too many, its message finds no row, its
--- block is one level too many, or it is itself one too many. Elsewhere: a header's fields, `OCHK`, or what closes a block or a header does not stand.
+-- Why a reading goes no further. At an entry: its own field or its closing does not stand, its message finds no row, its block is one level too many,
+-- or it is itself one too many. Elsewhere: a header's fields, `OCHK`, or what closes a block or a header does not stand.
 pub data Cause : Type 0 where
   own : Cause
-  no_chunk : Cause
   no_row : Cause
   no_level : Cause
   no_entry : Cause
   elsewhere : Cause
 
--- the entries begun where a reading stops, after those that stand: one where an entry's own field, its closing, 32, 24 or 21 refuses
+-- the entries begun where a reading stops, after those that stand: one where an entry's own field, its closing, 24 or 21 refuses
 abbrev pub more : Cause → ℕ
 more own = 1
-more no_chunk = 1
 more no_row = 1
 more no_level = 1
 more no_entry = 0
@@ -30,7 +27,6 @@ more elsewhere = 0
 -- the number of a refusal for a cause; where fields do not stand, it is theirs, and left open here
 abbrev pub Numbered : Limits → Cause → ℕ → Type 0
 Numbered l own r = Unit {0}
-Numbered l no_chunk r = r ≡ 32
 Numbered l no_row r = r ≡ 24
 Numbered l no_level r = r ≡ 21
 Numbered l no_entry r = r ≡ l.beyond
@@ -53,11 +49,8 @@ module _ (src : Source) (l : Limits) where
     -- its block; else nothing of it does.
     pub data EntryStops : ℕ → List Item → ℕ → List Item → Cause → Type 0 where
       too_many : {level p : ℕ} {before : List Item} → l.entries ≤ length before → EntryStops level before p [] no_entry
-      fails : {level p : ℕ} {before : List Item} → Nowhere src.file (src.entry any) p → EntryStops level before p [] own
-      too_long : {level p : ℕ} {before : List Item} (q : ℕ) (m : Message) → One src p q (message m) → budget l (chunks_in before) < chunks_held (message m)
-          → EntryStops level before p [] no_chunk
-      rowless : {level p : ℕ} {before : List Item} (q : ℕ) (m : Message) → One src p q (message m) → chunks_held (message m) ≤ budget l (chunks_in before) → l.fits (messages before) ≡ false
-          → EntryStops level before p [] no_row
+      fails : {level p : ℕ} {before : List Item} → Nowhere src.file src.entry p → EntryStops level before p [] own
+      rowless : {level p : ℕ} {before : List Item} (q : ℕ) (m : Message) → One src p q (message m) → l.fits (messages before) ≡ false → EntryStops level before p [] no_row
       too_deep : {level p : ℕ} {before : List Item} (q offset size : ℕ) → One src p q (continuation offset size) → block_levels < suc level → EntryStops level before p [] no_level
       opens : {level p q offset size : ℕ} {before xs : List Item} {c : Cause} → One src p q (continuation offset size) → suc level ≤ block_levels
           → BlockStops (suc level) (before ++ item p q (continuation offset size) ∷ []) offset size xs c → EntryStops level before p (item p q (continuation offset size) ∷ xs) c

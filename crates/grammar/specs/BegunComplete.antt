@@ -8,17 +8,15 @@ use mathlib.Core.List.{List, [], ◌∷◌, ◌++◌}
 use Rattle.std.proofs.Math.ListN.{length}
 use Rattle.format.specs.Format.{Format, Out, found, refused, Stands, read}
 use Rattle.format.specs.Laws as formats
-use Rattle.format.specs.Rooms.{any, at_most}
-use Rattle.format.specs.Needs.{Needs, needs_stands, needs_over}
-use Rattle.grammar.specs.Message.{Message, Held, message, continuation, chunks_held}
+use Rattle.grammar.specs.Message.{Message, Held, message, continuation}
 use Rattle.grammar.specs.Grammar.{Source, Item, item, ochk, block_end, header_end, One, Run, Entry}
-use Rattle.grammar.specs.Table.{messages, chunks_in}
-use Rattle.grammar.specs.Walk.{Went, stopped, Count, counted, opened, Limits, start, budget, hold, entry_by, run_by, block_by, entry_at, run_at, walk, Fit}
+use Rattle.grammar.specs.Table.{messages}
+use Rattle.grammar.specs.Walk.{Went, stopped, Count, counted, opened, Limits, start, hold, entry_by, run_by, block_by, entry_at, run_at, walk, Fit}
 use Rattle.grammar.specs.WalkLaws.{choose_yes, choose_no, then_reached, then_stopped, found_then, refused_then, fit_first, fit_second}
 use Rattle.grammar.specs.Steps.{run_goes, run_stops, entry_own}
 use Rattle.grammar.specs.Complete.{entry_some, run_complete, entry_complete}
 use Rattle.grammar.specs.Advance.{deeper, entry_levels}
-use Rattle.grammar.specs.Begun.{Cause, own, no_chunk, no_row, no_level, no_entry, elsewhere, more, Numbered, Nowhere, RunStops, after, at, too_many, fails, too_long, rowless, too_deep, opens, unsigned, within, unclosed, ReadingStops, in_run, not_closed, Stopped}
+use Rattle.grammar.specs.Begun.{Cause, own, no_row, no_level, no_entry, elsewhere, more, Numbered, Nowhere, RunStops, after, at, too_many, fails, rowless, too_deep, opens, unsigned, within, unclosed, ReadingStops, in_run, not_closed, Stopped}
 use Rattle.grammar.specs.BegunSound.{Told, told_after, told_opened}
 
 -- where nothing of a format stands, it is refused
@@ -74,38 +72,24 @@ module _ (src : Source) (l : Limits) where
   unfolding entry_by
   many_stopped level p before h levels s k t f n = (l.beyond, refl, as_many (omega arith) (entry_levels src l levels p s ∙ choose_no _ _ (le-ltb s.entries l.entries (omega (arith, h, t.entries)))))
 
-  -- what stands nowhere is refused, however many chunks are allowed
-  refused_by : (p b : ℕ) → Nowhere src.file (src.entry any) p → (r : ℕ) × (read src.file (src.entry (at_most b)) p ≡ refused r)
-  refused_by p b h = go (read src.file (src.entry (at_most b)) p) refl
-    where
-      go : (o : Out Held) → read src.file (src.entry (at_most b)) p ≡ o → (r : ℕ) × (read src.file (src.entry (at_most b)) p ≡ refused r)
-      go (found x q) e = absurd (h q x ((needs_stands src.file (src.entry any) p (src.tie p) b q x).0 e).0)
-      go (refused r) e = (r, e)
-
-  fails_stopped : (level p : ℕ) (before : List Item) → Nowhere src.file (src.entry any) p → EntryStopped level before p [] own
+  fails_stopped : (level p : ℕ) (before : List Item) → Nowhere src.file src.entry p → EntryStopped level before p [] own
   unfolding entry_by
   fails_stopped level p before h levels s k t f n =
-      let v = refused_by p (budget l s.chunks) h in
+      let v = nowhere_read src.file src.entry p h in
       (v.0, tt, as_many (omega arith) (entry_levels src l levels p s ∙ choose_yes _ _ (lt-ltb s.entries l.entries (omega (arith, n))) ∙ refused_then _ _ v.1))
 
-  -- an entry that stands and lists no chunk too many, by what it holds
-  holds : (levels p q : ℕ) (s : Count) (x : Held) → s.entries < l.entries → One src p q x → chunks_held x ≤ budget l s.chunks → entry_at src l levels p s ≡ hold src l (deeper src l levels) s p x q
-  holds levels p q s x b h d = entry_levels src l levels p s ∙ entry_own src l (deeper src l levels) p s b x q ((needs_stands src.file (src.entry any) p (src.tie p) (budget l s.chunks) q x).1 (h, d))
+  -- an entry that stands, by what it holds
+  holds : (levels p q : ℕ) (s : Count) (x : Held) → s.entries < l.entries → One src p q x → entry_at src l levels p s ≡ hold src l (deeper src l levels) s p x q
+  holds levels p q s x b h = entry_levels src l levels p s ∙ entry_own src l (deeper src l levels) p s b x q (formats.complete src.file src.entry p q x h)
 
-  long_stopped : (level p q : ℕ) (m : Message) (before : List Item) → One src p q (message m) → budget l (chunks_in before) < chunks_held (message m) → EntryStopped level before p [] no_chunk
-  unfolding entry_by
-  long_stopped level p q m before h d levels s k t f n =
-      let v = needs_over src.file (src.entry any) p (src.tie p) (budget l s.chunks) q (message m) h (omega (arith, d, t.chunks)) in
-      (32, refl, as_many (omega arith) (entry_levels src l levels p s ∙ choose_yes _ _ (lt-ltb s.entries l.entries (omega (arith, n))) ∙ refused_then _ _ v))
-
-  rowless_stopped : (level p q : ℕ) (m : Message) (before : List Item) → One src p q (message m) → chunks_held (message m) ≤ budget l (chunks_in before) → l.fits (messages before) ≡ false → EntryStopped level before p [] no_row
+  rowless_stopped : (level p q : ℕ) (m : Message) (before : List Item) → One src p q (message m) → l.fits (messages before) ≡ false → EntryStopped level before p [] no_row
   unfolding hold
-  rowless_stopped level p q m before h d e levels s k t f n =
-      (24, refl, as_many (omega arith) (holds levels p q s (message m) (omega (arith, n)) h (omega (arith, d, t.chunks)) ∙ choose_no _ _ (subst (λ (y : ℕ). l.fits y ≡ false) (sym t.rows) e)))
+  rowless_stopped level p q m before h e levels s k t f n =
+      (24, refl, as_many (omega arith) (holds levels p q s (message m) (omega (arith, n)) h ∙ choose_no _ _ (subst (λ (y : ℕ). l.fits y ≡ false) (sym t.rows) e)))
 
   deep_stopped : (level p q o w : ℕ) (before : List Item) → One src p q (continuation o w) → 25 < suc level → EntryStopped level before p [] no_level
   unfolding hold deeper
-  deep_stopped level p q o w before h d zero s k t f n = (21, refl, as_many (omega arith) (holds 0 p q s (continuation o w) (omega (arith, n)) h (omega arith)))
+  deep_stopped level p q o w before h d zero s k t f n = (21, refl, as_many (omega arith) (holds 0 p q s (continuation o w) (omega (arith, n)) h))
   deep_stopped level p q o w before h d (suc levels) s k t f n = absurd (omega arith)
 
   opens_stopped : (level p q o w : ℕ) (before xs : List Item) (c : Cause) → One src p q (continuation o w) → suc level ≤ 25 → BlockStopped (suc level) (before ++ item p q (continuation o w) ∷ []) o w xs c
@@ -113,8 +97,8 @@ module _ (src : Source) (l : Limits) where
   unfolding hold deeper
   opens_stopped level p q o w before xs c h d i zero s k t f n = absurd (omega arith)
   opens_stopped level p q o w before xs c h d i (suc levels) s k t f n =
-      let v = i levels (opened s) (omega arith) (told_opened t p q o w) (record { few = omega (arith, f.few); room = f.room; within = omega (arith, f.within); short = omega (arith, f.short) }) (omega (arith, n)) in
-      (v.0, v.1, as_many (omega arith) (holds (suc levels) p q s (continuation o w) (omega (arith, f.few)) h (omega arith) ∙ then_stopped _ v.2))
+      let v = i levels (opened s) (omega arith) (told_opened t p q o w) (record { few = omega (arith, f.few); room = f.room }) (omega (arith, n)) in
+      (v.0, v.1, as_many (omega arith) (holds (suc levels) p q s (continuation o w) (omega (arith, f.few)) h ∙ then_stopped _ v.2))
 
   unsigned_stopped : (level o w : ℕ) (before : List Item) → Nowhere src.file ochk o → BlockStopped level before o w [] elsewhere
   unfolding block_by
@@ -144,8 +128,7 @@ module _ (src : Source) (l : Limits) where
     | at {level = level} {p = p} {e = e} {before = before} {xs = xs} {c = c} g (x → i) ↦ at_stopped level p e before xs c g i
     | too_many {level = level} {p = p} {before = before} h ↦ many_stopped level p before h
     | fails {level = level} {p = p} {before = before} h ↦ fails_stopped level p before h
-    | too_long {level = level} {p = p} {before = before} q m h d ↦ long_stopped level p q m before h d
-    | rowless {level = level} {p = p} {before = before} q m h d e ↦ rowless_stopped level p q m before h d e
+    | rowless {level = level} {p = p} {before = before} q m h e ↦ rowless_stopped level p q m before h e
     | too_deep {level = level} {p = p} {before = before} q o w h d ↦ deep_stopped level p q o w before h d
     | opens {level = level} {p = p} {q = q} {offset = o} {size = w} {before = before} {xs = xs} {c = c} h d (b → i) ↦ opens_stopped level p q o w before xs c h d i
     | unsigned {level = level} {offset = o} {size = w} {before = before} h ↦ unsigned_stopped level o w before h
@@ -159,7 +142,7 @@ module _ (src : Source) (l : Limits) where
   stopped_walk o e p r n h = let v = go h.stops h.fit (omega (arith, h.begun, h.few)) in (v.0, v.1, as_many (sym h.begun) v.2)
     where
       go : {xs : List Item} {c : Cause} → ReadingStops src l o p e xs c → Fit l start xs → 0 + length xs + more c ≤ l.entries → Halts (walk src l o e p) start xs c
-      go (in_run x) f n = let v = run_stopped x 25 (suc l.entries) start refl (record { entries = refl; rows = refl; chunks = refl }) (omega arith) f n in (v.0, v.1, then_stopped _ v.2)
+      go (in_run x) f n = let v = run_stopped x 25 (suc l.entries) start refl (record { entries = refl; rows = refl }) (omega arith) f n in (v.0, v.1, then_stopped _ v.2)
       go (not_closed {q = q} {xs = xs} x z) f n =
           let v = nowhere_read src.file (header_end src.sum o e q) q z in
           (v.0, tt, as_many (omega arith) (then_reached _ (run_complete src l x 25 (suc l.entries) start refl (omega arith) f) ∙ refused_then _ _ v.1))

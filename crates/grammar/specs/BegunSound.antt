@@ -1,23 +1,21 @@
 -- Where the definition stops, the grammar's reading stops, with as many entries begun: each of its tests is one of the grammar's. Assumes nothing.
 use Prim.Native.Nat.{ℕ, zero, suc, ◌+◌, ◌-◌, ◌≤◌, ◌<◌}
-use Rattle.std.specs.Prelude.{◌≡◌, refl, Bool, true, false, length, leb, ltb}
-use Rattle.std.proofs.Common.{sym, subst, ◌∙◌, arith, length-append}
+use Rattle.std.specs.Prelude.{◌≡◌, refl, false, length, leb, ltb}
+use Rattle.std.proofs.Common.{sym, subst, arith, length-append}
 use Rattle.std.proofs.Math.Logic.{⊎_elim}
 use mathlib.Core.List.{List, [], ◌∷◌, ◌++◌}
 use borrow.Author.Tests.{leb-true, ltb-true, ltb-false}
 use Rattle.format.specs.Format.{Out, found, refused, Stands, read}
 use Rattle.format.specs.Laws as formats
-use Rattle.format.specs.Rooms.{any, at_most}
-use Rattle.format.specs.Needs.{Needs, needs_stands}
-use Rattle.grammar.specs.Message.{Held, message, continuation, chunks_held}
+use Rattle.grammar.specs.Message.{Held, message, continuation}
 use Rattle.grammar.specs.Grammar.{Source, Item, item, ochk, block_end, header_end, One, Entry}
-use Rattle.grammar.specs.Table.{messages, chunks_in}
-use Rattle.grammar.specs.TableLaws.{messages-append, chunks_in-append}
-use Rattle.grammar.specs.Walk.{Went, reached, stopped, and_then, begun, Count, counted, opened, Limits, start, budget, hold, entry_by, run_by, block_by, entry_at, run_at, walk, Fit}
+use Rattle.grammar.specs.Table.{messages}
+use Rattle.grammar.specs.TableLaws.{messages-append}
+use Rattle.grammar.specs.Walk.{Went, reached, stopped, and_then, begun, Count, counted, opened, Limits, start, hold, entry_by, run_by, block_by, entry_at, run_at, walk, Fit}
 use Rattle.grammar.specs.WalkLaws.{chose, never, was_found, fit_none, fit-append}
 use Rattle.grammar.specs.Sound.{EntrySound, entry_sound, run_sound}
 use Rattle.grammar.specs.Complete.{entry_some}
-use Rattle.grammar.specs.Begun.{Cause, own, no_chunk, no_row, no_level, no_entry, elsewhere, more, Numbered, RunStops, after, at, EntryStops, too_many, fails, too_long, rowless, too_deep, opens, BlockStops, unsigned, within, unclosed, ReadingStops, in_run, not_closed, Stopped}
+use Rattle.grammar.specs.Begun.{Cause, own, no_row, no_level, no_entry, elsewhere, more, Numbered, RunStops, after, at, EntryStops, too_many, fails, rowless, too_deep, opens, BlockStops, unsigned, within, unclosed, ReadingStops, in_run, not_closed, Stopped}
 
 -- what stopped, where something and then what follows it did: the first, or what follows after it
 pub data Halted {A B : Type 0} (o : Went A) (k : A → ℕ → Went B) (r n : ℕ) : Type 0 where
@@ -36,15 +34,14 @@ was_refused m (refused r) e = (cc, cc)
 pub record Told (s : Count) (before : List Item) : Type 0 where
   pub entries : s.entries ≡ length before
   pub rows : s.rows ≡ messages before
-  pub chunks : s.chunks ≡ chunks_in before
 
 pub told_after : {s : Count} {before : List Item} → Told s before → (xs : List Item) → Told (counted s xs) (before ++ xs)
-told_after {before = before} t xs = record { entries = omega (arith, t.entries, length-append before xs); rows = omega (arith, t.rows, messages-append before xs); chunks = omega (arith, t.chunks, chunks_in-append before xs) }
+told_after {before = before} t xs = record { entries = omega (arith, t.entries, length-append before xs); rows = omega (arith, t.rows, messages-append before xs) }
 
 pub told_opened : {s : Count} {before : List Item} → Told s before → (p q o n : ℕ) → Told (opened s) (before ++ item p q (continuation o n) ∷ [])
 told_opened {before = before} t p q o n =
     let x = item p q (continuation o n) ∷ [] in
-    record { entries = omega (arith, t.entries, length-append before x); rows = omega (arith, t.rows, messages-append before x); chunks = omega (arith, t.chunks, chunks_in-append before x) }
+    record { entries = omega (arith, t.entries, length-append before x); rows = omega (arith, t.rows, messages-append before x) }
 
 module _ (l : Limits) {P : List Item → Cause → Type 0} where
   -- nothing stands before the refusal
@@ -134,62 +131,37 @@ module _ (src : Source) (l : Limits) where
           stops_at_once l elsewhere (unsigned (formats.none src.file ochk o r z.0)) tt (omega (arith, z.1)) (omega (arith, z.1))
       signed (later _ m v j) = ran m (formats.sound src.file ochk o m tt (was_found _ _ v)) (halted (run_by src l entry (suc l.entries) (o + w - 4) m s) _ j)
 
-  hold_halts : (level p q r n : ℕ) (block : Count → ℕ → ℕ → Went (List Item)) → OpenHalts block level → (s : Count) (before : List Item) (x : Held) → Told s before → s.entries < l.entries → One src p q x → chunks_held x ≤ budget l s.chunks
+  hold_halts : (level p q r n : ℕ) (block : Count → ℕ → ℕ → Went (List Item)) → OpenHalts block level → (s : Count) (before : List Item) (x : Held) → Told s before → s.entries < l.entries → One src p q x
       → hold src l block s p x q ≡ stopped r n → Stopped l s (EntryStops src l level before p) r n
   unfolding hold
-  hold_halts level p q r n block i s before (message m) t b h d f = ⊎_elim
+  hold_halts level p q r n block i s before (message m) t b h f = ⊎_elim
       (λ w. never (sym w.1))
       (λ w.
       let k : 24 ≡ r = cc w.1 in
       let z : s.entries + 1 ≡ n = cc w.1 in
-      stops_at_once l no_row (rowless q m h (omega (arith, d, t.chunks)) (subst (λ (y : ℕ). l.fits y ≡ false) t.rows w.0)) (sym k) z (omega (arith, z)))
+      stops_at_once l no_row (rowless q m h (subst (λ (y : ℕ). l.fits y ≡ false) t.rows w.0)) (sym k) z (omega (arith, z)))
       (chose (l.fits s.rows) _ _ f)
-  hold_halts level p q r n block i s before (continuation o w) t b h d f = go (halted (block (opened s) o w) _ f)
+  hold_halts level p q r n block i s before (continuation o w) t b h f = go (halted (block (opened s) o w) _ f)
     where
       go : Halted (block (opened s) o w) (λ xs _. reached (item p q (continuation o w) ∷ xs) q) r n → Stopped l s (EntryStops src l level before p) r n
       go (there v) = i p q o w r n s before t b h v
       go (later xs m v j) = never (sym j)
 
-  -- an entry that is refused with so many chunks allowed: it does not stand, or it stands and lists more
-  entry_refused : (level p r n : ℕ) (s : Count) (before : List Item) → Told s before → s.entries < l.entries → read src.file (src.entry (at_most (budget l s.chunks))) p ≡ refused r → s.entries + 1 ≡ n
-      → Stopped l s (EntryStops src l level before p) r n
-  entry_refused level p r n s before t d e z = by (read src.file (src.entry any) p) refl
-    where
-      tie : Needs chunks_held (read src.file (src.entry any) p) (λ b. read src.file (src.entry (at_most b)) p)
-      tie = src.tie p
-
-      long : (q : ℕ) (x : Held) → One src p q x → budget l s.chunks < chunks_held x → 32 ≡ r → Stopped l s (EntryStops src l level before p) r n
-      long q (message m) h k y = stops_at_once l no_chunk (too_long q m h (omega (arith, k, t.chunks))) (sym y) z (omega (arith, z))
-      long q (continuation o w) h k y = absurd (omega (arith, k))
-
-      over : (q : ℕ) (x : Held) → read src.file (src.entry any) p ≡ found x q → (b : Bool) → ltb (budget l s.chunks) tie.need ≡ b → Stopped l s (EntryStops src l level before p) r n
-      over q x f true y =
-          let k = ltb-true (budget l s.chunks) tie.need y in
-          let u = tie.full (budget l s.chunks) k in
-          long q x (formats.sound src.file (src.entry any) p q x f) (omega (arith, k, tie.told x q f)) cc
-      over q x f false y = formats.never (sym e ∙ tie.enough (budget l s.chunks) (ltb-false (budget l s.chunks) tie.need y) ∙ f)
-
-      by : (o : Out Held) → read src.file (src.entry any) p ≡ o → Stopped l s (EntryStops src l level before p) r n
-      by (refused m) f = stops_at_once l own (fails (formats.none src.file (src.entry any) p m f)) tt z (omega (arith, z))
-      by (found x q) f = over q x f (ltb (budget l s.chunks) tie.need) refl
-
   entry_by_halts : (level : ℕ) (block : Count → ℕ → ℕ → Went (List Item)) → OpenHalts block level → EntryHalts (entry_by src l block) level
   unfolding entry_by
   entry_by_halts level block i p r n s before t b f = ⊎_elim
-      (λ w. go (ltb-true _ _ w.0) (halted (begun (s.entries + 1) (read src.file (src.entry (at_most (budget l s.chunks))) p)) _ w.1))
+      (λ w. go (ltb-true _ _ w.0) (halted (begun (s.entries + 1) (read src.file src.entry p)) _ w.1))
       (λ w.
       let k : l.beyond ≡ r = cc w.1 in
       let z : s.entries ≡ n = cc w.1 in
       stops_at_once l no_entry (too_many (omega (arith, ltb-false s.entries l.entries w.0, t.entries))) (sym k) (omega (arith, z)) (omega (arith, z)))
       (chose (ltb s.entries l.entries) _ _ f)
     where
-      go : s.entries < l.entries → Halted (begun (s.entries + 1) (read src.file (src.entry (at_most (budget l s.chunks))) p)) (hold src l block s p) r n → Stopped l s (EntryStops src l level before p) r n
+      go : s.entries < l.entries → Halted (begun (s.entries + 1) (read src.file src.entry p)) (hold src l block s p) r n → Stopped l s (EntryStops src l level before p) r n
       go d (there v) =
-          let z = was_refused _ (read src.file (src.entry (at_most (budget l s.chunks))) p) v in
-          entry_refused level p r n s before t d z.0 z.1
-      go d (later x q v j) =
-          let w = (needs_stands src.file (src.entry any) p (src.tie p) (budget l s.chunks) q x).0 (was_found _ _ v) in
-          hold_halts level p q r n block i s before x t d w.0 w.1 j
+          let z = was_refused _ (read src.file src.entry p) v in
+          stops_at_once l own (fails (formats.none src.file src.entry p r z.0)) tt z.1 (omega (arith, z.1))
+      go d (later x q v j) = hold_halts level p q r n block i s before x t d (formats.sound src.file src.entry p q x (was_found _ _ v)) j
 
   -- no block is allowed, or one is
   deep_halts : (level : ℕ) → 25 ≤ level → OpenHalts (λ s o w. stopped 21 s.entries) level
@@ -208,7 +180,7 @@ module _ (src : Source) (l : Limits) where
         number = v.number;
         begun = omega (arith, v.begun);
         few = v.few;
-        fit = record { few = omega (arith, v.fit.few); room = λ j a c. v.fit.room j a c; within = omega (arith, v.fit.within); short = omega (arith, v.fit.short) };
+        fit = record { few = omega (arith, v.fit.few); room = λ j a c. v.fit.room j a c };
       }
 
   entry_halts : (levels level : ℕ) → levels + level ≡ 25 → EntryHalts (entry_at src l levels) level
@@ -234,5 +206,5 @@ module _ (src : Source) (l : Limits) where
       ran : Halted (run_at src l 25 e p start) (λ xs q. and_then (begun (length xs) (read src.file (header_end src.sum o e q) q)) (λ _ m. reached xs m)) r n → Stopped l start (ReadingStops src l o p e) r n
       ran (there v) =
           stops_as l (λ xs c x. in_run x)
-          (run_halts 0 (entry_at src l 25) (entry_sound src l 25 0 refl) (entry_halts 25 0 refl) (suc l.entries) e p r n start [] (record { entries = refl; rows = refl; chunks = refl }) (omega arith) (omega arith) v)
+          (run_halts 0 (entry_at src l 25) (entry_sound src l 25 0 refl) (entry_halts 25 0 refl) (suc l.entries) e p r n start [] (record { entries = refl; rows = refl }) (omega arith) (omega arith) v)
       ran (later xs q v j) = closed xs q v (halted (begun (length xs) (read src.file (header_end src.sum o e q) q)) _ j)

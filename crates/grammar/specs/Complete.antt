@@ -4,23 +4,21 @@ use Rattle.std.specs.Prelude.{◌≡◌, List, [], ◌∷◌, ◌++◌, length}
 use Rattle.std.proofs.Common.{◌∙◌, arith}
 use Rattle.format.specs.Format.{Stands, found, read}
 use Rattle.format.specs.Laws as formats
-use Rattle.format.specs.Rooms.{any, at_most}
-use Rattle.format.specs.Needs.{needs_stands}
-use Rattle.grammar.specs.Message.{Message, Held, message, continuation, chunks_held}
+use Rattle.grammar.specs.Message.{Message, Held, message, continuation}
 use Rattle.grammar.specs.Grammar.{Source, Item, item, ochk, block_end, One, Run, ends, goes, Entry, is_message, is_continuation, Block, is_block}
-use Rattle.grammar.specs.Walk.{Went, reached, Count, counted, opened, Limits, budget, run_by, block_by, entry_at, Fit}
+use Rattle.grammar.specs.Walk.{Went, reached, Count, counted, opened, Limits, run_by, block_by, entry_at, Fit}
 use Rattle.grammar.specs.WalkLaws.{then_reached, fit_first, fit_second}
 use Rattle.grammar.specs.Steps.{run_ends, run_goes, entry_kept, entry_opened, block_closed_lem}
 
 module _ (src : Source) (l : Limits) where
-  abbrev own : (s : Count) (p q : ℕ) (x : Held) → One src p q x → chunks_held x ≤ budget l s.chunks → read src.file (src.entry (at_most (budget l s.chunks))) p ≡ found x q
-  own s p q x h k = (needs_stands src.file (src.entry any) p (src.tie p) (budget l s.chunks) q x).1 (h, k)
+  abbrev own : (p q : ℕ) (x : Held) → One src p q x → read src.file src.entry p ≡ found x q
+  own p q x h = formats.complete src.file src.entry p q x h
 
   entry_message : (levels p q : ℕ) (m : Message) (s : Count) → One src p q (message m) → Fit l s (item p q (message m) ∷ [])
       → entry_at src l levels p s ≡ reached (item p q (message m) ∷ []) q
   unfolding entry_at
-  entry_message zero p q m s h f = entry_kept src l _ p s (omega (arith, f.few)) m q (own s p q (message m) h (omega (arith, f.within, f.short))) (f.room s.rows (omega arith) (omega arith))
-  entry_message (suc levels) p q m s h f = entry_kept src l _ p s (omega (arith, f.few)) m q (own s p q (message m) h (omega (arith, f.within, f.short))) (f.room s.rows (omega arith) (omega arith))
+  entry_message zero p q m s h f = entry_kept src l _ p s (omega (arith, f.few)) m q (own p q (message m) h) (f.room s.rows (omega arith) (omega arith))
+  entry_message (suc levels) p q m s h f = entry_kept src l _ p s (omega (arith, f.few)) m q (own p q (message m) h) (f.room s.rows (omega arith) (omega arith))
 
   run_step : (entry : ℕ → Count → Went (List Item)) (turns e p m q : ℕ) (s : Count) (xs ys : List Item) → p + src.prefix ≤ e → l.entries < turns + s.entries → Fit l s (xs ++ ys) → 1 ≤ length xs
       → entry p s ≡ reached xs m
@@ -54,8 +52,8 @@ module _ (src : Source) (l : Limits) where
   unfolding entry_at
   continued level p q o n xs h d i zero s k f = absurd (omega arith)
   continued level p q o n xs h d i (suc levels) s k f =
-      let b = i levels (opened s) (omega arith) (record { few = omega (arith, f.few); room = f.room; within = omega (arith, f.within); short = omega (arith, f.short) }) in
-      entry_opened src l (block_by src l (entry_at src l levels)) p s (omega (arith, f.few)) o n q (own s p q (continuation o n) h (omega arith)) b.0 xs b.1
+      let b = i levels (opened s) (omega arith) (record { few = omega (arith, f.few); room = f.room }) in
+      entry_opened src l (block_by src l (entry_at src l levels)) p s (omega (arith, f.few)) o n q (own p q (continuation o n) h) b.0 xs b.1
 
   block_whole : (level o n start q m : ℕ) (xs : List Item) → Stands src.file ochk o start tt → RunComplete level start (o + n - 4) q xs → Stands src.file (block_end src.sum o (o + n) q) q m tt
       → BlockComplete level o n xs

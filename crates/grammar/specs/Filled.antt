@@ -7,72 +7,40 @@ use Rattle.std.proofs.Common.{sym, ◌∙◌, length-append}
 use native.Mathlib.Omega.{arith}
 use borrow.Author.Tests.{ne_eqb}
 use Rattle.format.specs.Format.{Out, found, refused, read}
-use Rattle.format.specs.Rooms.{at_most}
-use Rattle.grammar.specs.Message.{Kept, Message, Held, message, continuation, list_of}
-use Rattle.grammar.specs.Message as kept
+use Rattle.grammar.specs.Message.{Held, message, continuation}
 use Rattle.row.specs.Rows.{row_words, encode, put_all}
 use Rattle.row.specs.RowLaws.{put_all_eq, put_all-append}
-use Rattle.records.specs.declared.OptionUsize.{OptionUsize}
-use Rattle.records.specs.declared.OptionUsize.TheVariants as counts
-use Rattle.chunk_row.specs.declared.Chunk.{Chunk}
-use Rattle.grammar.specs.Table.{messages_of, messages, rows_of, chunks_in, list_over, list_after, last_list, listed}
-use Rattle.grammar.specs.TableLaws.{messages_of-append, rows_of-append, length-rows_of, messages-append, messages_few, chunks_in-append, listed-append}
+use Rattle.grammar.specs.Table.{messages, rows_of}
+use Rattle.grammar.specs.TableLaws.{rows_of-append, length-rows_of, messages-append, messages_few}
 use Rattle.grammar.specs.Grammar.{Source, Item, item, ochk, block_end, header_end}
-use Rattle.grammar.specs.Walk.{choose, Went, reached, stopped, and_then, begun, Count, counted, Limits, budget, hold, entry_by, block_by, entry_at, run_at, walk}
+use Rattle.grammar.specs.Walk.{choose, Went, reached, stopped, and_then, begun, Count, counted, Limits, hold, entry_by, block_by, entry_at, run_at, walk}
 use Rattle.grammar.specs.WalkLaws.{First, first, never}
 use Rattle.grammar.specs.Steps.{before}
 use Rattle.grammar.specs.Advance.{deeper, entry_levels, advanced, run_at_goes, run_at_stops, run_at_ends, walk_stops, walk_unclosed, walk_closed}
 
--- how far a walk has come: entries begun, rows taken, the table; the chunks of all lists, those of the last list, the chunk table
+-- how far a walk has come: entries begun, rows taken, the table
 pub record Walked : Type 0 where
   pub entries : ℕ
   pub rows : ℕ
   pub table : List ℕ
-  pub chunks : ℕ
-  pub last : ℕ
-  pub list : List ℕ
 
 abbrev pub count : Walked → Count
-count s = record { entries = s.entries; rows = s.rows; chunks = s.chunks }
-
--- the length of the last list after a message, where so many were in the list before it
-abbrev pub length_over : ℕ → OptionUsize → ℕ
-length_over n counts.None = n
-length_over n (counts.Some k) = k
-
-abbrev pub length_after : ℕ → List Message → ℕ
-length_after n [] = n
-length_after n (m ∷ ms) = length_after (length_over n (list_of m.kept)) ms
+count s = record { entries = s.entries; rows = s.rows }
 
 -- the state after items
 abbrev pub grown : Walked → List Item → Walked
-grown s xs = record {
-  entries = s.entries + length xs;
-  rows = s.rows + messages xs;
-  table = put_all s.table s.rows (rows_of xs);
-  chunks = s.chunks + chunks_in xs;
-  last = length_after s.last (messages_of xs);
-  list = listed s.list (messages_of xs);
-}
-
--- before any
-abbrev pub fresh : List ℕ → List ℕ → Walked
-fresh t c = record { entries = 0; rows = 0; table = t; chunks = 0; last = 0; list = c }
+grown s xs = record { entries = s.entries + length xs; rows = s.rows + messages xs; table = put_all s.table s.rows (rows_of xs) }
 
 -- what a walk from s gives, told as a state
 abbrev pub tell : Walked → Went (List Item) → Went Walked
 tell s o = and_then o (λ xs q. reached (grown s xs) q)
 
-pub state≡ : {e e' r r' : ℕ} {t t' : List ℕ} {c c' n n' : ℕ} {l l' : List ℕ} → e ≡ e' → r ≡ r' → t ≡ t' → c ≡ c' → n ≡ n' → l ≡ l'
-    → ◌≡◌ {A = Walked} (record { entries = e; rows = r; table = t; chunks = c; last = n; list = l }) (record { entries = e'; rows = r'; table = t'; chunks = c'; last = n'; list = l' })
-state≡ p q u v w x = λ i. record { entries = p i; rows = q i; table = u i; chunks = v i; last = w i; list = x i }
+pub state≡ : {e e' r r' : ℕ} {t t' : List ℕ} → e ≡ e' → r ≡ r' → t ≡ t'
+    → ◌≡◌ {A = Walked} (record { entries = e; rows = r; table = t }) (record { entries = e'; rows = r'; table = t' })
+state≡ p q u = λ i. record { entries = p i; rows = q i; table = u i }
 
 pub grown_none : (s : Walked) → grown s [] ≡ s
-grown_none s = state≡ (omega arith) (omega arith) refl (omega arith) refl refl
-
-length_after-append : (n : ℕ) (ms ns : List Message) → length_after n (ms ++ ns) ≡ length_after (length_after n ms) ns
-length_after-append n [] ns = refl
-length_after-append n (m ∷ ms) ns = length_after-append (length_over n (list_of m.kept)) ms ns
+grown_none s = state≡ (omega arith) (omega arith) refl
 
 grown-append : (s : Walked) (xs ys : List Item) → grown (grown s xs) ys ≡ grown s (xs ++ ys)
 grown-append s xs ys =
@@ -80,9 +48,6 @@ grown-append s xs ys =
     state≡ (omega (arith, length-append xs ys)) (omega (arith, messages-append xs ys))
     (ap (λ (i : ℕ). put_all (put_all s.table s.rows (rows_of xs)) i (rows_of ys)) n ∙ sym (put_all-append (rows_of xs) (rows_of ys) s.table s.rows)
     ∙ ap (put_all s.table s.rows) (sym (rows_of-append xs ys)))
-    (omega (arith, chunks_in-append xs ys))
-    (sym (length_after-append s.last (messages_of xs) (messages_of ys)) ∙ ap (length_after s.last) (sym (messages_of-append xs ys)))
-    (sym (listed-append s.list (messages_of xs) (messages_of ys)) ∙ ap (listed s.list) (sym (messages_of-append xs ys)))
 
 pub tell_before : (s : Walked) (xs : List Item) (o : Went (List Item)) → tell s (before xs o) ≡ tell (grown s xs) o
 tell_before s xs (reached ys q) = ap (λ (x : Walked). reached x q) (sym (grown-append s xs ys))
@@ -92,24 +57,6 @@ tell_before s xs (stopped r n) = refl
 pub untold : (s : Walked) (o : Went (List Item)) {r n : ℕ} → tell s o ≡ stopped r n → o ≡ stopped r n
 untold s (reached xs q) e = never (sym e)
 untold s (stopped r n) e = cc
-
--- the length of the last list is that of the last layout's
-length-list : (ms : List Message) (w : List Chunk) → length_after (length w) ms ≡ length (list_after w ms)
-length-list [] w = refl
-length-list (m ∷ ms) w = ap (λ (n : ℕ). length_after n ms) (over m.kept) ∙ length-list ms (list_over w m.kept)
-  where
-    over : (k : Kept) → length_over (length w) (list_of k) ≡ length (list_over w k)
-    over kept.nothing = refl
-    over (kept.data_space d) = refl
-    over (kept.link_info l) = refl
-    over (kept.data_type d) = refl
-    over (kept.data_layout l cs) = refl
-    over (kept.group_info g) = refl
-    over (kept.attribute a) = refl
-    over (kept.attribute_info a) = refl
-
-pub length-last : (ms : List Message) → length_after 0 ms ≡ length (last_list ms)
-length-last ms = length-list ms []
 
 -- what rows leave in a table with room for them: their words, then the rest untouched
 pub filled_table : (xs : List Item) (t : List ℕ) → messages xs * row_words ≤ length t → put_all t 0 (rows_of xs) ≡ encode (rows_of xs) ++ drop (messages xs * row_words) t
@@ -123,12 +70,12 @@ module _ (src : Source) (l : Limits) where
   abbrev pub run_on : ℕ → ℕ → ℕ → Walked → Went Walked
   run_on levels e p s = tell s (run_at src l levels e p (count s))
 
-  abbrev pub walk_on : ℕ → ℕ → ℕ → List ℕ → List ℕ → Went Walked
-  walk_on o e p t c = tell (fresh t c) (walk src l o e p)
+  abbrev pub walk_on : ℕ → ℕ → ℕ → List ℕ → Went Walked
+  walk_on o e p t = tell (record { entries = 0; rows = 0; table = t }) (walk src l o e p)
 
   -- the state in which a block's run begins
   abbrev pub inner : Walked → Walked
-  inner s = record { entries = s.entries + 1; rows = s.rows; table = s.table; chunks = s.chunks; last = s.last; list = s.list }
+  inner s = record { entries = s.entries + 1; rows = s.rows; table = s.table }
 
   -- What an entry holds that stands from p to q, from state to state, as the code has it: the block is opened and closed around its run.
   abbrev pub hold_on : ℕ → Walked → ℕ → Held → ℕ → Went Walked
@@ -151,7 +98,7 @@ module _ (src : Source) (l : Limits) where
   shut : (s : Walked) (p q o n : ℕ) (xs : List Item) (w : Out (Unit {0}))
       → tell s (and_then (and_then (begun (s.entries + 1 + length xs) w) (λ _ m. reached xs m)) (λ ys _. reached (item p q (continuation o n) ∷ ys) q))
       ≡ and_then (begun (s.entries + 1 + length xs) w) (λ _ _. reached (grown (inner s) xs) q)
-  shut s p q o n xs (found a m) = ap (λ (x : Walked). reached x q) (state≡ (omega arith) refl refl (omega arith) refl refl)
+  shut s p q o n xs (found a m) = ap (λ (x : Walked). reached x q) (state≡ (omega arith) refl refl)
   shut s p q o n xs (refused r) = refl
 
   ran : (s : Walked) (p q o n : ℕ) (w : Went (List Item))
@@ -173,10 +120,10 @@ module _ (src : Source) (l : Limits) where
   hold_on_lem (suc levels) s p (continuation o n) q = let e : suc levels - 1 ≡ levels = omega arith in let d : suc levels ≡ 0 → ⊥ = λ h. omega arith in rw (e, ne_eqb (suc levels) 0 d) (opens levels s p q o n (read src.file ochk o))
 
   -- an entry, in one equation
-  pub entry_on_lem : (levels p : ℕ) (s : Walked) → entry_on levels p s ≡ choose (ltb s.entries l.entries) (λ _. and_then (begun (s.entries + 1) (read src.file (src.entry (at_most (budget l s.chunks))) p)) (hold_on levels s p)) (λ _. stopped l.beyond s.entries)
+  pub entry_on_lem : (levels p : ℕ) (s : Walked) → entry_on levels p s ≡ choose (ltb s.entries l.entries) (λ _. and_then (begun (s.entries + 1) (read src.file src.entry p)) (hold_on levels s p)) (λ _. stopped l.beyond s.entries)
   unfolding entry_by
   entry_on_lem levels p s = ap (tell s) (entry_levels src l levels p (count s))
-      ∙ tell_choose s (ltb s.entries l.entries) _ _ _ _ (tell_read s (s.entries + 1) (read src.file (src.entry (at_most (budget l s.chunks))) p) _ _ (λ x q. hold_on_lem levels s p x q)) refl
+      ∙ tell_choose s (ltb s.entries l.entries) _ _ _ _ (tell_read s (s.entries + 1) (read src.file src.entry p) _ _ (λ x q. hold_on_lem levels s p x q)) refl
 
   -- from s at p to s₁ at q: entries were begun, not too many, and q is in the file where p is
   pub record Further (s s₁ : Walked) (p q : ℕ) : Type 0 where
@@ -215,27 +162,30 @@ module _ (src : Source) (l : Limits) where
           ∙ tell_before s went.value (run_at src l levels e m (counted (count s) went.value))
           ∙ ap (λ (x : Walked). run_on levels e m x) to
 
-  module _ (o e p : ℕ) (t c : List ℕ) where
-    pub walk_on_stops : (r n : ℕ) → run_on 25 e p (fresh t c) ≡ stopped r n → walk_on o e p t c ≡ stopped r n
-    walk_on_stops r n i = ap (tell (fresh t c)) (walk_stops src l o e p r n (untold (fresh t c) (run_at src l 25 e p (count (fresh t c))) i))
+  module _ (o e p : ℕ) (t : List ℕ) where
+    abbrev pub fresh : Walked
+    fresh = record { entries = 0; rows = 0; table = t }
 
-    module _ (q : ℕ) (s : Walked) (i : run_on 25 e p (fresh t c) ≡ reached s q) where
-      went' : First (run_at src l 25 e p (count (fresh t c))) (λ xs q. reached (grown (fresh t c) xs) q) s q
-      went' = first (run_at src l 25 e p (count (fresh t c))) (λ xs q. reached (grown (fresh t c) xs) q) i
+    pub walk_on_stops : (r n : ℕ) → run_on 25 e p fresh ≡ stopped r n → walk_on o e p t ≡ stopped r n
+    walk_on_stops r n i = ap (tell fresh) (walk_stops src l o e p r n (untold fresh (run_at src l 25 e p (count fresh)) i))
 
-      to' : grown (fresh t c) went'.value ≡ s
+    module _ (q : ℕ) (s : Walked) (i : run_on 25 e p fresh ≡ reached s q) where
+      went' : First (run_at src l 25 e p (count fresh)) (λ xs q. reached (grown fresh xs) q) s q
+      went' = first (run_at src l 25 e p (count fresh)) (λ xs q. reached (grown fresh xs) q) i
+
+      to' : grown fresh went'.value ≡ s
       to' = cc went'.then
 
       at' : went'.next ≡ q
       at' = cc went'.then
 
-      pub walk_on_unclosed : (r : ℕ) → read src.file (header_end src.sum o e q) q ≡ refused r → walk_on o e p t c ≡ stopped r s.entries
+      pub walk_on_unclosed : (r : ℕ) → read src.file (header_end src.sum o e q) q ≡ refused r → walk_on o e p t ≡ stopped r s.entries
       walk_on_unclosed r h =
           let n : length went'.value ≡ s.entries = omega (arith, ap (λ (x : Walked). x.entries) to') in
-          ap (tell (fresh t c)) (walk_unclosed src l o e p q went'.value (went'.first ∙ ap (reached went'.value) at') r h)
+          ap (tell fresh) (walk_unclosed src l o e p q went'.value (went'.first ∙ ap (reached went'.value) at') r h)
           ∙ ap (stopped r) n
 
-      pub walk_on_closed : (m : ℕ) → read src.file (header_end src.sum o e q) q ≡ found tt m → walk_on o e p t c ≡ reached s m
+      pub walk_on_closed : (m : ℕ) → read src.file (header_end src.sum o e q) q ≡ found tt m → walk_on o e p t ≡ reached s m
       walk_on_closed m h =
-          ap (tell (fresh t c)) (walk_closed src l o e p q went'.value (went'.first ∙ ap (reached went'.value) at') m h)
+          ap (tell fresh) (walk_closed src l o e p q went'.value (went'.first ∙ ap (reached went'.value) at') m h)
           ∙ ap (λ (x : Walked). reached x m) to'

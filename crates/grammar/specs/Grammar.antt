@@ -2,10 +2,8 @@
 -- the standard says.
 -- Assumes nothing: these are definitions.
 use Rattle.std.specs.Prelude.{ℕ, suc, ◌+◌, ◌-◌, ◌≤◌, ◌<◌, Bool, List, [], ◌∷◌, ◌++◌}
-use Rattle.format.specs.Format.{Format, skip, check, nothing, signature, Stands, read}
-use Rattle.format.specs.Rooms.{Room, any, at_most}
-use Rattle.format.specs.Needs.{Needs}
-use Rattle.grammar.specs.Message.{Message, Held, message, continuation, chunks_held}
+use Rattle.format.specs.Format.{Format, skip, check, nothing, signature, Stands}
+use Rattle.grammar.specs.Message.{Message, Held, message, continuation}
 
 -- IV.A.2.q: `OCHK`, the bytes 4F 43 48 4B
 unfoldable pub ochk : Format (Unit {0})
@@ -24,14 +22,12 @@ item p q x = record { from = p; upto = q; held = x }
 abbrev pub block_levels : ℕ
 block_levels = 25
 
--- What does not change while a header is walked: the file, a prefix's bytes, one entry by itself, with any number of chunks and with at most so many,
--- and whether the checksum stored at the second place is that of the bytes from the first up to it. The two entries are tied: with as many chunks as
--- are needed they are the same, and with fewer it is 32.
+-- What does not change while a header is walked: the file, a prefix's bytes, one entry by itself, and whether the checksum stored at the second
+-- place is that of the bytes from the first up to it.
 pub record Source : Type 1 where
   pub file : List ℕ
   pub prefix : ℕ
-  pub entry : Room → Format Held
-  pub tie : (p : ℕ) → Needs chunks_held (read file (entry any) p) (λ b. read file (entry (at_most b)) p)
+  pub entry : Format Held
   pub sum : ℕ → ℕ → Bool
 
 -- What closes a block from o to w, and a header from o whose chunk ends at e, after a run that ends at q: the gap, the 4 bytes of the stored checksum
@@ -43,9 +39,9 @@ unfoldable pub header_end : (ℕ → ℕ → Bool) → ℕ → ℕ → ℕ → F
 header_end sum o e q = skip (e - q) (skip 4 (check (sum o e) 28 nothing))
 
 module _ (src : Source) where
-  -- one entry by itself stands from p to q, and holds x; the grammar has no limit of chunks
+  -- one entry by itself stands from p to q, and holds x
   abbrev pub One : ℕ → ℕ → Held → Type 0
-  One p q x = Stands src.file (src.entry any) p q x
+  One p q x = Stands src.file src.entry p q x
 
   mutual
     -- Run level p e q xs: a run from p within e ends at q, and xs is all that stands in it, in the reading's order.

@@ -1,5 +1,5 @@
 -- What stands in an entry: a message with the figures of its row, or a continuation. Assumes nothing: these are definitions.
-use Rattle.std.specs.Prelude.{ℕ, List, [], length}
+use Rattle.std.specs.Prelude.{ℕ}
 use Rattle.records.specs.declared.OptionPart.{OptionPart}
 use Rattle.records.specs.declared.OptionPart.TheVariants as parts
 use Rattle.records.specs.declared.DataSpace.{DataSpace}
@@ -8,25 +8,19 @@ use Rattle.records.specs.declared.GroupInfo.{GroupInfo}
 use Rattle.records.specs.declared.AttributeInfo.{AttributeInfo}
 use Rattle.records.specs.declared.DataType.{DataType}
 use Rattle.records.specs.declared.DataLayout.{DataLayout}
-use Rattle.records.specs.declared.LayoutData.{LayoutData}
-use Rattle.records.specs.declared.LayoutData.TheVariants as layouts
-use Rattle.records.specs.declared.OptionUsize.{OptionUsize}
-use Rattle.records.specs.declared.OptionUsize.TheVariants as counts
 use Rattle.records.specs.declared.Attribute.{Attribute}
 use Rattle.records.specs.declared.Value.{Value}
 use Rattle.records.specs.declared.Value.TheVariants as values
 use Rattle.records.specs.Numbers.{value_text, value_case, value_bits}
 use Rattle.row.specs.declared.Row.{Row}
-use Rattle.chunk_row.specs.declared.Chunk.{Chunk}
 
--- what is kept of a message's body; of a fill value, a filter pipeline and a body that is skipped nothing is. Of a layout its chunks are, in tree order;
--- one that is not chunked has none
+-- what is kept of a message's body; of a fill value, a filter pipeline and a body that is skipped nothing is
 pub data Kept : Type 0 where
   nothing : Kept
   data_space : DataSpace → Kept
   link_info : LinkInfo → Kept
   data_type : DataType → Kept
-  data_layout : DataLayout → List Chunk → Kept
+  data_layout : DataLayout → Kept
   group_info : GroupInfo → Kept
   attribute : Attribute → Kept
   attribute_info : AttributeInfo → Kept
@@ -50,7 +44,7 @@ name_of nothing = parts.None
 name_of (data_space d) = parts.None
 name_of (link_info l) = parts.None
 name_of (data_type t) = parts.None
-name_of (data_layout l cs) = parts.None
+name_of (data_layout l) = parts.None
 name_of (group_info g) = parts.None
 name_of (attribute a) = parts.Some a.name
 name_of (attribute_info a) = parts.None
@@ -61,15 +55,10 @@ value_of nothing = values.None
 value_of (data_space d) = values.None
 value_of (link_info l) = values.None
 value_of (data_type t) = values.None
-value_of (data_layout l cs) = values.None
+value_of (data_layout l) = values.None
 value_of (group_info g) = values.None
 value_of (attribute a) = a.value
 value_of (attribute_info a) = values.None
-
--- chunks are no part
-abbrev pub layout_part : LayoutData → OptionPart
-layout_part (layouts.Part p) = parts.Some p
-layout_part (layouts.Chunks d) = parts.None
 
 -- a layout's data and an attribute's text are parts of the file
 abbrev pub part_of : Kept → OptionPart
@@ -77,7 +66,7 @@ part_of nothing = parts.None
 part_of (data_space d) = parts.None
 part_of (link_info l) = parts.None
 part_of (data_type t) = parts.None
-part_of (data_layout l cs) = layout_part l.«data»
+part_of (data_layout l) = parts.Some l.«data»
 part_of (group_info g) = parts.None
 part_of (attribute a) = value_text a.value
 part_of (attribute_info a) = parts.None
@@ -94,30 +83,3 @@ row_of m = record {
   number_case = value_case (value_of m.kept);
   number_bits = value_bits (value_of m.kept);
 }
-
--- the chunks of a layout
-abbrev pub chunks_of : Kept → List Chunk
-chunks_of nothing = []
-chunks_of (data_space d) = []
-chunks_of (link_info l) = []
-chunks_of (data_type t) = []
-chunks_of (data_layout l cs) = cs
-chunks_of (group_info g) = []
-chunks_of (attribute a) = []
-chunks_of (attribute_info a) = []
-
--- a layout starts the list anew, and so many are listed
-abbrev pub list_of : Kept → OptionUsize
-list_of nothing = counts.None
-list_of (data_space d) = counts.None
-list_of (link_info l) = counts.None
-list_of (data_type t) = counts.None
-list_of (data_layout l cs) = counts.Some (length cs)
-list_of (group_info g) = counts.None
-list_of (attribute a) = counts.None
-list_of (attribute_info a) = counts.None
-
--- the chunks that an entry lists
-abbrev pub chunks_held : Held → ℕ
-chunks_held (message m) = length (chunks_of m.kept)
-chunks_held (continuation o l) = 0

@@ -8,11 +8,9 @@ use native.Mathlib.Omega.{arith}
 use Rattle.std.proofs.Common.{leb-true, leb-false, ltb-true}
 use Rattle.format.specs.Format.{read}
 use Rattle.format.specs.Laws as formats
-use Rattle.format.specs.Rooms.{any, at_most}
-use Rattle.format.specs.Needs.{needs_stands}
-use Rattle.grammar.specs.Message.{Held, message, continuation, chunks_held}
+use Rattle.grammar.specs.Message.{Held, message, continuation}
 use Rattle.grammar.specs.Grammar.{Source, Item, item, ochk, block_end, One, Run, ends, goes, Entry, is_message, is_continuation, Block, is_block}
-use Rattle.grammar.specs.Walk.{Went, reached, stopped, begun, Count, counted, opened, Limits, budget, hold, entry_by, run_by, block_by, entry_at, run_at, Fit}
+use Rattle.grammar.specs.Walk.{Went, reached, stopped, begun, Count, counted, opened, Limits, hold, entry_by, run_by, block_by, entry_at, run_at, Fit}
 use Rattle.grammar.specs.WalkLaws.{chose, never, passed, first, was_found, fit_none, fit-append}
 
 module _ (src : Source) (l : Limits) where
@@ -64,31 +62,30 @@ module _ (src : Source) (l : Limits) where
       let closed = formats.sound src.file (block_end src.sum o (o + n) v.next) v.next t.next tt (was_found _ _ t.first) in
       (h, subst (Fitting (Block src level o n) s) c (is_block t.next signed r.0 closed, r.1))
 
-  hold_sound : (level p m q : ℕ) (block : Count → ℕ → ℕ → Went (List Item)) → BlockSound block (suc level) → (s : Count) (xs : List Item) (x : Held) → s.entries < l.entries → One src p m x → chunks_held x ≤ budget l s.chunks
+  hold_sound : (level p m q : ℕ) (block : Count → ℕ → ℕ → Went (List Item)) → BlockSound block (suc level) → (s : Count) (xs : List Item) (x : Held) → s.entries < l.entries → One src p m x
       → hold src l block s p x m ≡ reached xs q → Fitting (Entry src level p q) s xs
   unfolding hold
-  hold_sound level p m q block i s xs (message r) b h k f =
+  hold_sound level p m q block i s xs (message r) b h f =
       let a = passed (l.fits s.rows) _ _ _ f in
       let d : m ≡ q = cc a.1 in
       let c : item p m (message r) ∷ [] ≡ xs = cc a.1 in
       subst₂ (λ (x : ℕ) (ys : List Item). Fitting (Entry src level p x) s ys) d c
-      (is_message h, record { few = omega arith; room = λ i u v. let z : s.rows ≡ i = omega arith in subst (λ (y : ℕ). l.fits y ≡ true) z a.0; within = omega (arith, k); short = omega (arith, k) })
-  hold_sound level p m q block i s xs (continuation o n) b h w f =
+      (is_message h, record { few = omega arith; room = λ i u v. let z : s.rows ≡ i = omega arith in subst (λ (y : ℕ). l.fits y ≡ true) z a.0 })
+  hold_sound level p m q block i s xs (continuation o n) b h f =
       let v = first (block (opened s) o n) _ f in
       let k = i o n v.next (opened s) v.value (omega arith) v.first in
       let d : m ≡ q = cc v.then in
       let c : item p m (continuation o n) ∷ v.value ≡ xs = cc v.then in
-      let g = k.1.1 in
+      let w = k.1.1 in
       subst₂ (λ (x : ℕ) (ys : List Item). Fitting (Entry src level p x) s ys) d c
-      (is_continuation h k.0 k.1.0, record { few = omega (arith, g.few); room = λ i a b. g.room i a b; within = omega (arith, g.within); short = omega (arith, g.short) })
+      (is_continuation h k.0 k.1.0, record { few = omega (arith, w.few); room = λ i a b. w.room i a b })
 
   entry_by_sound : (level : ℕ) (block : Count → ℕ → ℕ → Went (List Item)) → BlockSound block (suc level) → EntrySound (entry_by src l block) level
   unfolding entry_by
   entry_by_sound level block i p q s xs b f =
       let a = passed (ltb s.entries l.entries) _ _ _ f in
-      let v = first (begun (s.entries + 1) (read src.file (src.entry (at_most (budget l s.chunks))) p)) _ a.1 in
-      let w = (needs_stands src.file (src.entry any) p (src.tie p) (budget l s.chunks) v.next v.value).0 (was_found _ _ v.first) in
-      hold_sound level p v.next q block i s xs v.value (ltb-true _ _ a.0) w.0 w.1 v.then
+      let v = first (begun (s.entries + 1) (read src.file src.entry p)) _ a.1 in
+      hold_sound level p v.next q block i s xs v.value (ltb-true _ _ a.0) (formats.sound src.file src.entry p v.next v.value (was_found _ _ v.first)) v.then
 
   pub entry_sound : (levels level : ℕ) → levels + level ≡ 25 → EntrySound (entry_at src l levels) level
   unfolding entry_at

@@ -3,10 +3,9 @@ use Rattle.std.specs.Prelude.{ℕ, suc, ◌+◌, ◌-◌, ◌≤◌, ◌<◌, �
 use Rattle.std.proofs.Common.{◌∙◌, le-leb, lt-ltb}
 use Rattle.std.proofs.lemmas.Bool.{lt-leb}
 use Rattle.format.specs.Format.{found, read}
-use Rattle.format.specs.Rooms.{at_most}
 use Rattle.grammar.specs.Message.{Message, Held, message, continuation}
 use Rattle.grammar.specs.Grammar.{Source, Item, item, ochk, block_end}
-use Rattle.grammar.specs.Walk.{Went, reached, stopped, and_then, Count, counted, opened, Limits, budget, hold, entry_by, run_by, block_by}
+use Rattle.grammar.specs.Walk.{Went, reached, stopped, and_then, Count, counted, opened, Limits, hold, entry_by, run_by, block_by}
 use Rattle.grammar.specs.WalkLaws.{choose_yes, choose_no, then_reached, then_stopped, found_then}
 
 -- items before those that are reached
@@ -29,16 +28,16 @@ module _ (src : Source) (l : Limits) where
 
   module _ (block : Count → ℕ → ℕ → Went (List Item)) (p : ℕ) (s : Count) where
     module _ (h : s.entries < l.entries) where
-      pub entry_own : (x : Held) (q : ℕ) → read src.file (src.entry (at_most (budget l s.chunks))) p ≡ found x q → entry_by src l block p s ≡ hold src l block s p x q
+      pub entry_own : (x : Held) (q : ℕ) → read src.file src.entry p ≡ found x q → entry_by src l block p s ≡ hold src l block s p x q
       unfolding entry_by
       entry_own x q f = choose_yes _ _ (lt-ltb _ _ h) ∙ found_then _ _ f
 
-      module _ (m : Message) (q : ℕ) (f : read src.file (src.entry (at_most (budget l s.chunks))) p ≡ found (message m) q) where
+      module _ (m : Message) (q : ℕ) (f : read src.file src.entry p ≡ found (message m) q) where
         pub entry_kept : l.fits s.rows ≡ true → entry_by src l block p s ≡ reached (item p q (message m) ∷ []) q
         unfolding hold
         entry_kept i = entry_own (message m) q f ∙ choose_yes _ _ i
 
-      module _ (o n q : ℕ) (f : read src.file (src.entry (at_most (budget l s.chunks))) p ≡ found (continuation o n) q) where
+      module _ (o n q : ℕ) (f : read src.file src.entry p ≡ found (continuation o n) q) where
         pub entry_opened : (m : ℕ) (xs : List Item) → block (opened s) o n ≡ reached xs m → entry_by src l block p s ≡ reached (item p q (continuation o n) ∷ xs) q
         unfolding hold
         entry_opened m xs i = entry_own (continuation o n) q f ∙ then_reached _ i

@@ -3,13 +3,12 @@ use Rattle.std.specs.Prelude.{ℕ, suc, ◌+◌, ◌-◌, ◌≤◌, ◌<◌, �
 use Rattle.std.proofs.Common.{sym, ap, ap₂, ◌∙◌, subst, subst₂, arith}
 use Rattle.format.specs.Format.{Stands}
 use Rattle.format.specs.Laws as formats
-use Rattle.format.specs.Rooms.{any}
 use Rattle.grammar.specs.Message.{Message, Held, message, continuation}
 use Rattle.grammar.specs.Grammar.{Source, Item, item, ochk, header_end, One, Run, ends, goes, Entry, is_message, is_continuation, Block, is_block, Reading}
 
 module _ (src : Source) where
   abbrev once : (p q q' : ℕ) (x x' : Held) → One src p q x → One src p q' x' → (q ≡ q') × (x ≡ x')
-  once p q q' x x' h h' = formats.unique src.file (src.entry any) p q q' x x' h h'
+  once p q q' x x' h h' = formats.unique src.file src.entry p q q' x x' h h'
 
   data RunView (level p e q : ℕ) (xs : List Item) : Type 0 where
     ended : e < p + src.prefix → p ≡ q → [] ≡ xs → RunView level p e q xs

@@ -1,11 +1,10 @@
 -- What walking a header's run of entries gives: what stands in it, in the reading's order, or a refusal with its number and the entries begun.
 -- Rows, counts and the table are told from the items. Assumes nothing: these are definitions.
-use Rattle.std.specs.Prelude.{ℕ, zero, suc, ◌+◌, ◌-◌, ◌≤◌, ◌<◌, min, ◌≡◌, Bool, true, false, List, [], ◌∷◌, ◌++◌, length, leb, ltb}
+use Rattle.std.specs.Prelude.{ℕ, zero, suc, ◌+◌, ◌-◌, ◌≤◌, ◌<◌, ◌≡◌, Bool, true, false, List, [], ◌∷◌, ◌++◌, length, leb, ltb}
 use Rattle.format.specs.Format.{Out, found, refused, read}
-use Rattle.format.specs.Rooms.{at_most}
 use Rattle.grammar.specs.Message.{Held, message, continuation}
 use Rattle.grammar.specs.Grammar.{Source, Item, item, ochk, block_levels, block_end, header_end}
-use Rattle.grammar.specs.Table.{messages, chunks_in, longest}
+use Rattle.grammar.specs.Table.{messages}
 
 -- the second or the third, which wait until they are asked
 abbrev pub choose : {A : Type 0} → Bool → (Unit {0} → A) → (Unit {0} → A) → A
@@ -27,64 +26,50 @@ abbrev pub begun : {A : Type 0} → ℕ → Out A → Went A
 begun n (found a q) = reached a q
 begun n (refused r) = stopped r n
 
--- the entries begun, the rows taken and the chunks listed before a place of the walk
+-- the entries begun and the rows taken before a place of the walk
 pub record Count : Type 0 where
   pub entries : ℕ
   pub rows : ℕ
-  pub chunks : ℕ
 
 -- after items, and after a continuation's own entry
 abbrev pub counted : Count → List Item → Count
-counted s xs = record { entries = s.entries + length xs; rows = s.rows + messages xs; chunks = s.chunks + chunks_in xs }
+counted s xs = record { entries = s.entries + length xs; rows = s.rows + messages xs }
 
 abbrev pub opened : Count → Count
-opened s = record { entries = s.entries + 1; rows = s.rows; chunks = s.chunks }
+opened s = record { entries = s.entries + 1; rows = s.rows }
 
--- how many entries are allowed, the number of the refusal of the next, which rows there are, how many chunks are allowed in all lists, and how many in
--- each
+-- how many entries are allowed, the number of the refusal of the next, and which rows there are
 pub record Limits : Type 0 where
   pub entries : ℕ
   pub beyond : ℕ
   pub fits : ℕ → Bool
-  pub chunks : ℕ
-  pub list : ℕ
 
 -- entries that are allowed
 abbrev pub entry_limit : ℕ
 entry_limit = 4096
 
--- chunks that are allowed in all lists of a header
-abbrev pub chunk_limit : ℕ
-chunk_limit = 1048576
-
--- with so many rows and so many chunk rows, and where a message and a chunk need none
-abbrev pub within : ℕ → ℕ → ℕ → ℕ → Limits
-within entries beyond rows list = record { entries = entries; beyond = beyond; fits = λ i. ltb i rows; chunks = chunk_limit; list = list }
+-- with so many rows, and where a message needs none
+abbrev pub within : ℕ → ℕ → ℕ → Limits
+within entries beyond rows = record { entries = entries; beyond = beyond; fits = λ i. ltb i rows }
 
 abbrev pub without : ℕ → ℕ → Limits
-without entries beyond = record { entries = entries; beyond = beyond; fits = λ _. true; chunks = chunk_limit; list = chunk_limit }
+without entries beyond = record { entries = entries; beyond = beyond; fits = λ _. true }
 
--- the limits of a table with so many rows and a chunk table with so many, and those without tables: the 4,097th entry is 23
-abbrev pub lent : ℕ → ℕ → Limits
-lent rows list = within entry_limit 23 rows list
+-- the limits of a table with so many rows, and those without a table: the 4,097th entry is 23
+abbrev pub lent : ℕ → Limits
+lent rows = within entry_limit 23 rows
 
 abbrev pub without_table : Limits
 without_table = without entry_limit 23
 
--- the items xs fit after s: no entry too many, a row for each message, no chunk too many, and no list too long
+-- the items xs fit after s: no entry too many, and a row for each message
 pub record Fit (l : Limits) (s : Count) (xs : List Item) : Type 0 where
   pub few : s.entries + length xs ≤ l.entries
   pub room : (i : ℕ) → s.rows ≤ i → i < s.rows + messages xs → l.fits i ≡ true
-  pub within : chunks_in xs ≤ l.chunks - s.chunks
-  pub short : longest xs ≤ l.list
 
--- no entry begun, no row taken, no chunk listed
+-- no entry begun, no row taken
 abbrev pub start : Count
-start = record { entries = 0; rows = 0; chunks = 0 }
-
--- how many chunks the next list may have, after so many in the lists before it
-abbrev pub budget : Limits → ℕ → ℕ
-budget l chunks = min l.list (l.chunks - chunks)
+start = record { entries = 0; rows = 0 }
 
 module _ (src : Source) (l : Limits) where
   -- What an entry holds that stands from p to q. A message takes the next row; where there is none, 24, after its entry.
@@ -95,7 +80,7 @@ module _ (src : Source) (l : Limits) where
 
   -- an entry at p; one beyond the limit is refused before its first byte
   unfoldable pub entry_by : (Count → ℕ → ℕ → Went (List Item)) → ℕ → Count → Went (List Item)
-  entry_by block p s = choose (ltb s.entries l.entries) (λ _. and_then (begun (s.entries + 1) (read src.file (src.entry (at_most (budget l s.chunks))) p)) (hold block s p)) (λ _. stopped l.beyond s.entries)
+  entry_by block p s = choose (ltb s.entries l.entries) (λ _. and_then (begun (s.entries + 1) (read src.file src.entry p)) (hold block s p)) (λ _. stopped l.beyond s.entries)
 
   -- entries from p while position plus prefix is at most e; there are always turns enough
   unfoldable pub run_by : (ℕ → Count → Went (List Item)) → ℕ → ℕ → ℕ → Count → Went (List Item)

@@ -3,9 +3,9 @@ use Rattle.std.specs.Prelude.{ℕ, zero, suc, ◌+◌, ◌-◌, ◌≤◌, ◌<�
 use Rattle.std.proofs.Common.{ap, inl, inr, arith, length-append, ltb-true, ltb-false, lt-ltb}
 use Rattle.format.specs.Format.{Out, found, refused}
 use Rattle.grammar.specs.Grammar.{Item}
-use Rattle.grammar.specs.Table.{messages, chunks_in, longest}
-use Rattle.grammar.specs.TableLaws.{messages-append, chunks_in-append, longest-append, longest_all}
-use Rattle.grammar.specs.Walk.{choose, Went, reached, stopped, and_then, begun, Count, counted, Limits, entry_limit, chunk_limit, lent, without_table, start, Fit}
+use Rattle.grammar.specs.Table.{messages}
+use Rattle.grammar.specs.TableLaws.{messages-append}
+use Rattle.grammar.specs.Walk.{choose, Went, reached, stopped, and_then, begun, Count, counted, Limits, entry_limit, lent, without_table, start, Fit}
 
 pub choose_yes : {A : Type 0} {b : Bool} (f g : Unit {0} → A) → b ≡ true → choose b f g ≡ f tt
 choose_yes f g e = ap (λ x. choose x f g) e
@@ -61,50 +61,32 @@ same_reached {xs = xs} {ys = ys} {p = p} {q = q} f e =
     λ i. f (b i) (a i)
 
 pub fit_none : (l : Limits) (s : Count) → s.entries ≤ l.entries → Fit l s []
-fit_none l s h = record { few = omega arith; room = λ i a b. absurd (omega arith); within = omega arith; short = omega arith }
+fit_none l s h = record { few = omega arith; room = λ i a b. absurd (omega arith) }
 
 pub fit_first : (l : Limits) (s : Count) (xs ys : List Item) → Fit l s (xs ++ ys) → Fit l s xs
-fit_first l s xs ys f = record {
-  few = omega (arith, f.few, length-append xs ys);
-  room = λ i a b. f.room i a (omega (arith, messages-append xs ys));
-  within = omega (arith, f.within, chunks_in-append xs ys);
-  short = omega (arith, f.short, longest-append xs ys);
-}
+fit_first l s xs ys f = record { few = omega (arith, f.few, length-append xs ys); room = λ i a b. f.room i a (omega (arith, messages-append xs ys)) }
 
 pub fit_second : (l : Limits) (s : Count) (xs ys : List Item) → Fit l s (xs ++ ys) → Fit l (counted s xs) ys
-fit_second l s xs ys f = record {
-  few = omega (arith, f.few, length-append xs ys);
-  room = λ i a b. f.room i (omega arith) (omega (arith, messages-append xs ys));
-  within = omega (arith, f.within, chunks_in-append xs ys);
-  short = omega (arith, f.short, longest-append xs ys);
-}
+fit_second l s xs ys f = record { few = omega (arith, f.few, length-append xs ys); room = λ i a b. f.room i (omega arith) (omega (arith, messages-append xs ys)) }
 
 pub fit-append : (l : Limits) (s : Count) (xs ys : List Item) → Fit l s xs → Fit l (counted s xs) ys → Fit l s (xs ++ ys)
 fit-append l s xs ys f g = record {
   few = omega (arith, g.few, length-append xs ys);
   room = λ i a b. go i a b (ltb i (s.rows + messages xs)) refl;
-  within = omega (arith, f.within, g.within, chunks_in-append xs ys);
-  short = omega (arith, f.short, g.short, longest-append xs ys);
 }
   where
     go : (i : ℕ) → s.rows ≤ i → i < s.rows + messages (xs ++ ys) → (t : Bool) → ltb i (s.rows + messages xs) ≡ t → l.fits i ≡ true
     go i a b true e = f.room i a (ltb-true _ _ e)
     go i a b false e = g.room i (ltb-false _ _ e) (omega (arith, messages-append xs ys))
 
--- what fits a table with so many rows and a chunk table with so many
-rows_below : (n c k : ℕ) (xs : List Item) → messages xs ≡ k → Fit (lent n c) start xs → k ≤ n
-rows_below n c zero xs e f = omega arith
-rows_below n c (suc k) xs e f = let h = ltb-true k n (f.room k (omega arith) (omega arith)) in omega arith
+-- what fits a table with so many rows
+rows_below : (n k : ℕ) (xs : List Item) → messages xs ≡ k → Fit (lent n) start xs → k ≤ n
+rows_below n zero xs e f = omega arith
+rows_below n (suc k) xs e f = let h = ltb-true k n (f.room k (omega arith) (omega arith)) in omega arith
 
-pub fit_lent : (n c : ℕ) (xs : List Item) → Fit (lent n c) start xs ↔ (((length xs ≤ entry_limit) × (chunks_in xs ≤ chunk_limit)) × ((messages xs ≤ n) × (longest xs ≤ c)))
-fit_lent n c xs = (
-  λ f. ((omega (arith, f.few), omega (arith, f.within)), (rows_below n c (messages xs) xs refl f, f.short)),
-  λ h. record { few = omega (arith, h.0.0); room = λ i a b. lt-ltb i n (omega (arith, h.1.0)); within = omega (arith, h.0.1); short = h.1.1 },
-)
+pub fit_lent : (n : ℕ) (xs : List Item) → Fit (lent n) start xs ↔ ((length xs ≤ entry_limit) × (messages xs ≤ n))
+fit_lent n xs = (λ f. (omega (arith, f.few), rows_below n (messages xs) xs refl f), λ h. record { few = omega (arith, h.0); room = λ i a c. lt-ltb i n (omega (arith, h.1)) })
 
 -- what fits without a table
-pub fit_without : (xs : List Item) → Fit without_table start xs ↔ ((length xs ≤ entry_limit) × (chunks_in xs ≤ chunk_limit))
-fit_without xs = (
-  λ f. (omega (arith, f.few), omega (arith, f.within)),
-  λ h. record { few = omega (arith, h.0); room = λ i a c. refl; within = omega (arith, h.1); short = omega (arith, h.1, longest_all xs) },
-)
+pub fit_without : (xs : List Item) → Fit without_table start xs ↔ (length xs ≤ entry_limit)
+fit_without xs = (λ f. omega (arith, f.few), λ h. record { few = omega (arith, h); room = λ i a c. refl })

@@ -1,34 +1,35 @@
 -- Laws of the listing. Assumes nothing.
-use Prim.Native.Nat.{ℕ, zero, suc, ◌+◌, ◌*◌, ◌≤◌, max}
-use Rattle.std.specs.Prelude.{◌≡◌, ◌⊎◌, length, take, drop}
-use Rattle.std.proofs.Math.Path.{refl, sym, ap, ap₂}
-use Rattle.std.proofs.Common.{◌∙◌, arith, add-one, length-append, length-take}
-use Rattle.std.proofs.Math.Logic.{inl, inr}
-use mathlib.Core.List.{List, [], ◌∷◌, ◌++◌, append_assoc, append-nil}
+use Rattle.std.specs.Prelude.{ℕ, zero, suc, ◌+◌, ◌*◌, ◌/◌, ◌≤◌, ◌<◌, ◌≡◌, List, [], ◌∷◌, ◌++◌, length, get_or, take, replicate}
+use Rattle.std.proofs.Math.Path.{refl, ap}
+use Rattle.std.proofs.Common.{sym, ◌∙◌, append_assoc, append-nil, arith, add-one, length-append, length-take, ne_eqb}
+use Rattle.std.proofs.lemmas.List.{length-replicate}
 use Rattle.format.specs.Format.{found, refused}
 use Rattle.format.specs.Laws.{never}
 use Rattle.records.specs.Refusals.{refusal_number}
+use Rattle.records.specs.RefusalLaws.{refusal_positive}
 use Rattle.records.specs.declared.Refusal.{Refusal}
 use Rattle.row.specs.declared.Row.{Row}
 use Rattle.row.specs.Rows.{row_words, row_at, first_rows}
-use Rattle.row.specs.RowLaws.{written_read}
 use Rattle.text.specs.Text.{Wrote}
 use Rattle.grammar.specs.Grammar.{Item}
-use Rattle.grammar.specs.Table.{messages, rows_of, longest}
-use Rattle.grammar.specs.TableLaws.{length-rows_of}
+use Rattle.grammar.specs.Table.{messages}
 use Rattle.grammar.specs.Walk.{Went, reached, stopped, lent, without_table}
-use Rattle.grammar.specs.Filled.{filled_table}
-use Rattle.grammar.specs.Beside.{Back, TooFew}
-use Rattle.data_object_messages.specs.declared.HeaderWalk.{HeaderWalk}
 use Rattle.data_object_header.specs.Headers.{decode}
-use Rattle.data_object_header.specs.Passing.{passes_lent, decode_beside}
-use Rattle.data_object_messages.specs.Messages.{decode_on, walked_of}
-use Rattle.data_object_messages.specs.Laws.{stops, Told, told}
+use Rattle.data_object_header.specs.Passing.{decode_beside}
 use Rattle.data_object_check.specs.declared.HeaderFigures.{HeaderFigures}
 use Rattle.data_object_check.specs.declared.CheckAnswer.{CheckAnswer}
 use Rattle.data_object_check.specs.declared.CheckAnswer.TheVariants as checks
 use Rattle.data_object_check.specs.Checked.{check_out, figures, Checked}
-use Rattle.listing_text.specs.Listing.{line_of, lines_of, end_of, refused_of, result_of, pair_text, header_text, Counts}
+use Rattle.data_object.specs.declared.Answer.{Answer}
+use Rattle.data_object.specs.declared.Answer.TheVariants as answers
+use Rattle.data_object.specs.declared.DataObject.{DataObject}
+use Rattle.data_object.specs.Decoded.{answer_out, counts, decoded, Meant, Decoded}
+use Rattle.data_object.specs.DecodedLaws.{complete, accepted_rows}
+use Rattle.data_object_words.specs.Words.{words_of}
+use Rattle.data_object_words.specs.Laws.{rows_word}
+use Rattle.data_object_words.specs.Told.{rows_told}
+use Rattle.data_object_words.specs.Handed.{Handed}
+use Rattle.listing_text.specs.Listing.{line_of, lines_of, refused_of, result_of, words_text, pair_text, header_text, Counts}
 
 lines-append : (i : ℕ) (rs qs : List Row) → lines_of i (rs ++ qs) ≡ lines_of i rs ++ lines_of (i + length rs) qs
 lines-append i [] qs = let e : i + 0 ≡ i = omega arith in rw e
@@ -56,36 +57,42 @@ wrote_counts {o} {o'} {r} {xs} w =
     let e : length (take r o') ≡ length xs = ap length w.same in
     (omega (arith, e, w.next, length-take r o'), omega (arith, e, w.next))
 
--- what a walk over a header's messages came to, with a table t of 512 rows, which it leaves as u, and no chunk table: its text is what the definition
--- gives, since the table holds the rows of the definition's items
-module _ (file : List ℕ) (offsets lengths end at : ℕ) (t : List ℕ) where
-  pub refused_listed : (x : Refusal) (m : ℕ) → stopped (refusal_number x) m ≡ decode_on file offsets lengths end at (lent 512 4096) t [] → refused_of (refusal_number x) ≡ result_of (decode file offsets lengths end at (lent 512 4096))
-  unfolding result_of
-  refused_listed x m e = sym (ap result_of (stops file offsets lengths end at (lent 512 4096) t [] (refusal_number x) m e))
+-- what is told by the words of a header is what the definition gives, since its table holds the rows of the definition's items, and no refusal
+-- has the number 0
+module _ (file : List ℕ) (offsets lengths end at n : ℕ) (r : DataObject) (t : List ℕ) (d : Decoded file offsets lengths end at n r t) where
+  pub listed : words_text (words_of r) (first_rows t r.rows) ≡ result_of (decoded file offsets lengths end at n)
+  unfolding result_of words_text
+  listed = go r.answer refl d.answer d.meant
+    where
+      refusal : (x : Refusal) (w : Went (List Item)) → refused (refusal_number x) ≡ counts w → refused_of (refusal_number x) ≡ result_of w
+      refusal x (reached xs q) e = never e
+      refusal x (stopped k m) e = let z : refusal_number x ≡ k = cc in ap refused_of z
 
-  module _ (l : length t ≡ 512 * row_words) (p : HeaderWalk) (u v : List ℕ) (e : reached (walked_of p u v) p.at ≡ decode_on file offsets lengths end at (lent 512 4096) t []) where
-    w : Told file offsets lengths end at (lent 512 4096) t [] p u v
-    w = told file offsets lengths end at (lent 512 4096) t [] p u v e
+      go : (a : Answer) → r.answer ≡ a → answer_out a ≡ counts (decoded file offsets lengths end at n) → Meant file offsets lengths end at n a r t
+          → words_text (words_of r) (first_rows t r.rows) ≡ result_of (decoded file offsets lengths end at n)
+      go (answers.Read next count) s e m =
+          rw (s, m.entries, accepted_rows file offsets lengths end at n m) (sym (ap result_of (complete file offsets lengths end at n next m.items m.readable)))
+      go (answers.Refused x) s e m = rw (s, ne_eqb (refusal_number x) 0 (refusal_positive x)) (refusal x (decoded file offsets lengths end at n) e)
 
-    few : messages w.items ≤ 512
-    few = ((passes_lent file offsets lengths end at 512 4096 p.at w.items).0 w.reaches).1.0
+-- 512 rows are lent
+module _ (file : List ℕ) (offsets lengths end at : ℕ) (t w : List ℕ) (h : Handed file offsets lengths end at (length (replicate {A = ℕ} (512 * row_words) 0)) t w) where
+  words : length (replicate {A = ℕ} (512 * row_words) 0) / row_words ≡ 512
+  words = omega (arith, length-replicate {A = ℕ} (512 * row_words) 0)
 
-    pub rows_lent : p.rows ≤ 512
-    rows_lent = omega (arith, w.rows, few)
+  pub lent_listed : words_text w (first_rows t (get_or w 3 0)) ≡ result_of (decode file offsets lengths end at (lent 512))
+  lent_listed =
+      ap (λ (v : List ℕ). words_text v (first_rows t (get_or v 3 0))) h.words
+      ∙ ap (λ (k : ℕ). words_text (words_of h.object) (first_rows t k)) (rows_word h.object)
+      ∙ listed file offsets lengths end at (length (replicate {A = ℕ} (512 * row_words) 0)) h.object t h.decoded
+      ∙ ap (λ (n : ℕ). result_of (decode file offsets lengths end at (lent n))) words
 
-    first_rows : first_rows u p.rows ≡ rows_of w.items
-    first_rows =
-        ap₂ first_rows (w.filled ∙ filled_table w.items t (omega (arith, few, l))) (w.rows ∙ sym (length-rows_of w.items))
-        ∙ written_read (rows_of w.items) (drop (messages w.items * row_words) t)
-
-    pub read_listed : lines_of 0 (first_rows u p.rows) ++ end_of p.at p.entries ≡ result_of (decode file offsets lengths end at (lent 512 4096))
-    unfolding result_of
-    read_listed = ap₂ (λ (rs : List Row) (n : ℕ). lines_of 0 rs ++ end_of p.at n) first_rows w.entries ∙ sym (ap result_of w.reaches)
+  pub lent_rows : get_or w 3 0 ≤ 512
+  lent_rows = omega (arith, words, rows_told h)
 
 -- the pair: what the check answers decides which text it is
 module _ (file : List ℕ) (offsets lengths end at : ℕ) where
   abbrev filled : Went (List Item)
-  filled = decode file offsets lengths end at (lent 512 4096)
+  filled = decode file offsets lengths end at (lent 512)
 
   refusal_listed : (r : ℕ) (o : Went (List Item)) → refused r ≡ figures o → refused_of r ≡ pair_text o filled
   unfolding pair_text
@@ -102,26 +109,17 @@ module _ (file : List ℕ) (offsets lengths end at : ℕ) where
     unfolding header_text
     check_refused x e = refusal_listed (refusal_number x) (decode file offsets lengths end at without_table) (sym (ap check_out e) ∙ c.answer)
 
-    pub check_passed : (f : HeaderFigures) → a ≡ checks.Passed f → result_of (decode file offsets lengths end at (lent 512 4096)) ≡ header_text file offsets lengths end at
+    pub check_passed : (f : HeaderFigures) → a ≡ checks.Passed f → result_of (decode file offsets lengths end at (lent 512)) ≡ header_text file offsets lengths end at
     unfolding header_text
     check_passed f e = pass_listed f f.next (decode file offsets lengths end at without_table) (sym (ap check_out e) ∙ c.answer)
 
-  -- a header that passes its check has a line a row, unless it has more than 512, or a list of more than 4,096 chunks: then it is 24 or 32
+  -- a header that passes its check has a line a row, unless it has more than 512
   pub rows_listed : (xs : List Item) (next : ℕ) → decode file offsets lengths end at without_table ≡ reached xs next
-      → ((messages xs ≤ 512 → longest xs ≤ 4096 → header_text file offsets lengths end at ≡ result_of (reached xs next))
-      × (TooFew 512 (messages xs) 4096 (longest xs) → (header_text file offsets lengths end at ≡ refused_of 24) ⊎ (header_text file offsets lengths end at ≡ refused_of 32)))
+      → ((messages xs ≤ 512 → header_text file offsets lengths end at ≡ result_of (reached xs next)) × (512 < messages xs → header_text file offsets lengths end at ≡ refused_of 24))
   unfolding header_text pair_text result_of
   rows_listed xs next e =
       let b = decode_beside file offsets lengths end at in
-      let n = b.told xs next e in (
-        λ h i. ap (λ (o : Went (List Item)). pair_text o filled) e ∙ ap result_of (b.enough 512 4096 (omega (arith, n.0)) (omega (arith, n.1)) ∙ e),
-        λ h. back (b.full 512 4096 (omega arith) (omega arith) (few b.taken b.long n.0 n.1 h)),
+      let n : b.taken ≡ 0 + messages xs = b.told xs next e in (
+        λ h. ap (λ (o : Went (List Item)). pair_text o filled) e ∙ ap result_of (b.enough 512 (omega arith) ∙ e),
+        λ h. ap (λ (o : Went (List Item)). pair_text o filled) e ∙ ap result_of (b.full 512 (omega arith) (omega arith)).1,
       )
-    where
-      few : (taken long : ℕ) → taken ≡ 0 + messages xs → long ≡ max 0 (longest xs) → TooFew 512 (messages xs) 4096 (longest xs) → TooFew 512 taken 4096 long
-      few taken long m l (inl h) = inl (omega arith)
-      few taken long m l (inr h) = inr (omega arith)
-
-      back : Back filled → (pair_text (decode file offsets lengths end at without_table) filled ≡ refused_of 24) ⊎ (pair_text (decode file offsets lengths end at without_table) filled ≡ refused_of 32)
-      back (m, inl f) = inl (ap (λ (o : Went (List Item)). pair_text o filled) e ∙ ap result_of f)
-      back (m, inr f) = inr (ap (λ (o : Went (List Item)). pair_text o filled) e ∙ ap result_of f)

@@ -1,5 +1,5 @@
 -- The bytes of a listing. Assumes nothing: these are definitions.
-use Rattle.std.specs.Prelude.{ℕ, suc, ◌≤◌, ◌≡◌, true, false, List, [], ◌∷◌, ◌++◌, length, take, ltb}
+use Rattle.std.specs.Prelude.{ℕ, suc, ◌≤◌, ◌≡◌, true, false, List, [], ◌∷◌, ◌++◌, length, get_or, take, ltb, eqb}
 use Rattle.text.specs.Text.{field}
 use Rattle.format.specs.Format.{Out, found, refused, pick}
 use Rattle.records.specs.declared.OptionPart.{OptionPart}
@@ -48,14 +48,18 @@ unfoldable pub result_of : Went (List Item) → List ℕ
 result_of (reached xs next) = lines_of 0 (rows_of xs) ++ end_of next (length xs)
 result_of (stopped r n) = refused_of r
 
+-- the same of the words of a header (`words_of`) and its rows
+unfoldable pub words_text : List ℕ → List Row → List ℕ
+words_text w rs = pick (eqb (get_or w 0 0) 0) (lines_of 0 rs ++ end_of (get_or w 1 0) (get_or w 2 0)) (refused_of (get_or w 0 0))
+
 -- check, and fill: a header that the check refuses has the check's number, and of any other it is what the filling gives
 unfoldable pub pair_text : Went (List Item) → Went (List Item) → List ℕ
 pair_text (stopped r n) filled = refused_of r
 pair_text (reached xs next) filled = result_of filled
 
--- the listing of the header at a position; 512 rows and 4,096 chunk rows are lent
+-- the listing of the header at a position; 512 rows are lent
 unfoldable pub header_text : List ℕ → ℕ → ℕ → ℕ → ℕ → List ℕ
-header_text file offsets lengths end at = pair_text (decode file offsets lengths end at without_table) (decode file offsets lengths end at (lent 512 4096))
+header_text file offsets lengths end at = pair_text (decode file offsets lengths end at without_table) (decode file offsets lengths end at (lent 512))
 
 -- with a superblock: that of the header at its root address, with its widths and its end-of-file address; a refusal alone
 unfoldable pub root_text : List ℕ → Out SuperBlock → List ℕ

@@ -1,15 +1,14 @@
 // The listing: from a file, or a header in it, to the text that is written.
-ghost use Rattle.std.specs.Prelude.{◌≡◌, ◌+◌, ◌*◌, ◌/◌, ◌≤◌, length, take, drop};
+ghost use Rattle.std.specs.Prelude.{◌≡◌, ◌+◌, ◌*◌, ◌/◌, ◌≤◌, length, get_or, take, drop};
 ghost use Rattle.row.specs.Rows.{row_words, first_rows};
 ghost use Rattle.text.specs.Text.{Wrote};
 ghost use Rattle.grammar.specs.Walk.{lent};
 ghost use Rattle.data_object_header.specs.Headers.{decode};
-ghost use Rattle.listing_text.specs.Listing.{head_of, place_of, line_of, lines_of, end_of, refused_of, result_of, header_text, listing_of, Counts};
+ghost use Rattle.listing_text.specs.Listing.{head_of, place_of, line_of, lines_of, end_of, refused_of, result_of, words_text, header_text, listing_of, Counts};
 
 use data_object_check::{CheckAnswer, check_data_object};
-use data_object_messages::{Messages, data_object_messages};
-use ohdr_closing::Limits;
-use records::{OptionPart, Refusal};
+use data_object_words::header_words;
+use records::OptionPart;
 use row::{ROW_WORDS, Row, row_at};
 use super_block::{SuperBlockRead, super_block};
 
@@ -87,9 +86,21 @@ pub fn put_refused(out: &mut [u8], n: u64) -> usize
     text::put_field(out, at, true, n, b'\n')
 }
 
+// A header's words, with the rows of its table, as text.
+fn put_result(out: &mut [u8], table: &[u64], words: &[u64; 65]) -> usize
+    requires { (get_or words.now 3 0 ≤ length table.now / row_words) × (get_or words.now 3 0 * 189 + 46 ≤ length out.old) }
+    ensures { Wrote out.old 0 out.new result (words_text words.now (first_rows table.now (get_or words.now 3 0))) }
+{
+    let refused = words[0];
+    if refused != 0 {
+        return put_refused(out, refused);
+    }
+    let at = put_lines(out, table, words[3] as usize);
+    put_end(out, at, words[1], words[2])
+}
+
 // The rows of the header at a position, filled into a table, as text. A line has at most 189 bytes
-// and the last at most 46, so out has room for 512 rows. Its chunks are not listed: a list of more
-// than 4,096 is refused as where so many chunk rows are lent, and nothing is stored of it.
+// and the last at most 46, so out has room for 512 rows.
 fn fill_header(
     file: &[u8],
     position: u64,
@@ -98,42 +109,25 @@ fn fill_header(
     end_of_file: u64,
     out: &mut [u8; 98304],
 ) -> usize
-    ensures { Wrote out.old 0 out.new result (result_of (decode file.now offset_width length_width end_of_file position (lent 512 4096))) }
+    ensures { Wrote out.old 0 out.new result (result_of (decode file.now offset_width length_width end_of_file position (lent 512))) }
 {
-    let limits = Limits {
-        entries: 4096,
-        beyond: Refusal::Entries,
-        rows: 512,
-        counts: false,
-        chunks: 1048576,
-        list: 4096,
-    };
     let mut table = [0u64; 512 * ROW_WORDS];
-    let mut no_chunks = [0u64; 0];
-    match data_object_messages(
+    let mut words = [0u64; 65];
+    header_words(
         file,
-        &mut table,
-        &mut no_chunks,
         position,
         offset_width,
         length_width,
         end_of_file,
-        limits,
-    ) {
-        Messages::Refused(refusal, _) => {
-            let filling = refusal.number();
-            put_refused(out, filling)
-        }
-        Messages::Read(progress, _) => {
-            let at = put_lines(out, &table, progress.rows);
-            put_end(out, at, progress.at as u64, progress.entries as u64)
-        }
-    }
+        &mut table,
+        &mut words,
+    );
+    put_result(out, &table, &words)
 }
 
 // The listing of the header at a position, put at the start of out; the answer is its length, and
 // what stands behind it is left alone. It is checked first, so that what is wrong behind the 512th
-// row or the 4,096th chunk of a list has its own number.
+// row has its own number.
 pub fn list_header(
     file: &[u8],
     position: u64,

@@ -8,7 +8,6 @@ use Rattle.grammar.specs.Grammar.{block_end}
 use Rattle.grammar.specs.Walk.{choose, Went, reached, stopped, and_then, begun}
 use Rattle.grammar.specs.Walk as walks
 use Rattle.grammar.specs.Filled.{Walked}
-use Rattle.chunk_row.specs.Lists.{Lists}
 use Rattle.lookup3.specs.Lookup3.{sum_matches}
 use Rattle.ohdr_closing.specs.declared.Limits.{Limits}
 use Rattle.ohdr_closing.specs.declared.Progress.{Progress}
@@ -16,34 +15,26 @@ use Rattle.ohdr_closing.specs.declared.Walk.{Walk}
 use Rattle.ohdr_closing.specs.declared.Walk.TheVariants as answers
 
 abbrev pub limits_of : Limits → walks.Limits
-limits_of l = record { entries = l.entries; beyond = refusal_number l.beyond; fits = λ i. pick l.counts true (ltb i l.rows); chunks = l.chunks; list = l.list }
+limits_of l = record { entries = l.entries; beyond = refusal_number l.beyond; fits = λ i. pick l.counts true (ltb i l.rows) }
 
 -- a table has the rows of these limits; where messages are counted alone, there is none
 pub record Lends (l : Limits) (t : List ℕ) : Type 0 where
   pub room : l.rows * row_words ≤ length t
   pub none : l.counts ≡ true → length t ≡ 0
 
-abbrev pub walked_of : Progress → List ℕ → Lists → Walked
-walked_of p t c = record { entries = p.entries; rows = p.rows; table = t; chunks = c.chunks; last = c.last; list = c.table }
+abbrev pub walked_of : Progress → List ℕ → Walked
+walked_of p t = record { entries = p.entries; rows = p.rows; table = t }
 
--- a walk's answer with the table and the lists that it leaves; of a refusal they are no part
-abbrev pub walk_out : Walk → List ℕ → Lists → Went Walked
-walk_out (answers.Done p) t c = reached (walked_of p t c) p.at
-walk_out (answers.Refused r n) t c = stopped (refusal_number r) n
+-- a walk's answer with the table that it leaves; of a refusal the table is no part
+abbrev pub walk_out : Walk → List ℕ → Went Walked
+walk_out (answers.Done p) t = reached (walked_of p t) p.at
+walk_out (answers.Refused r n) t = stopped (refusal_number r) n
 
--- a message takes the next row; where there is none, 24. Where messages are counted alone, the table has no words, and none is written. The lists are
--- those after its body
-abbrev pub row_taken : Limits → Progress → Row → ℕ → List ℕ → Lists → Went Walked
-row_taken l p r q t c =
-    choose ((limits_of l).fits p.rows) (λ _. reached (record {
-      entries = p.entries + 1;
-      rows = p.rows + 1;
-      table = put_row t p.rows r;
-      chunks = c.chunks;
-      last = c.last;
-      list = c.table;
-    }) q) (λ _. stopped 24 (p.entries + 1))
+-- a message takes the next row; where there is none, 24. Where messages are counted alone, the table has no words, and none is written
+abbrev pub row_taken : Limits → Progress → Row → ℕ → List ℕ → Went Walked
+row_taken l p r q t =
+    choose ((limits_of l).fits p.rows) (λ _. reached (record { entries = p.entries + 1; rows = p.rows + 1; table = put_row t p.rows r }) q) (λ _. stopped 24 (p.entries + 1))
 
 -- a block from o to w, closed after a walk that came to p; reading resumes at q
-abbrev pub block_closed : List ℕ → ℕ → ℕ → Progress → ℕ → List ℕ → Lists → Went Walked
-block_closed file o w p q t c = and_then (begun p.entries (read file (block_end (sum_matches file) o w p.at) p.at)) (λ _ _. reached (walked_of p t c) q)
+abbrev pub block_closed : List ℕ → ℕ → ℕ → Progress → ℕ → List ℕ → Went Walked
+block_closed file o w p q t = and_then (begun p.entries (read file (block_end (sum_matches file) o w p.at) p.at)) (λ _ _. reached (walked_of p t) q)

@@ -8,7 +8,6 @@ use Rattle.row.specs.RowLaws.{length-put_row}
 use Rattle.grammar.specs.Walk.{reached, stopped}
 use Rattle.grammar.specs.WalkLaws.{choose_yes, choose_no}
 use Rattle.grammar.specs.Filled.{Walked, state≡}
-use Rattle.chunk_row.specs.Lists.{Lists}
 use Rattle.ohdr_closing.specs.Answers.{Lends, row_taken}
 use Rattle.ohdr_closing.specs.declared.Limits.{Limits}
 use Rattle.ohdr_closing.specs.declared.Progress.{Progress}
@@ -26,23 +25,23 @@ empty (x ∷ t) u e f = absurd (omega arith)
 nowhere : (t : List ℕ) (i : ℕ) (r : Row) → length t ≡ 0 → t ≡ put_row t i r
 nowhere t i r e = empty t (put_row t i r) e (length-put_row t i r ∙ e)
 
-module _ (l : Limits) (p : Progress) (r : Row) (q : ℕ) (t : List ℕ) (c : Lists) where
+module _ (l : Limits) (p : Progress) (r : Row) (q : ℕ) (t : List ℕ) where
   -- the state after the message
   abbrev after : List ℕ → Walked
-  after u = record { entries = p.entries + 1; rows = p.rows + 1; table = u; chunks = c.chunks; last = c.last; list = c.table }
+  after u = record { entries = p.entries + 1; rows = p.rows + 1; table = u }
 
-  takes : (u : List ℕ) → u ≡ put_row t p.rows r → pick l.counts true (ltb p.rows l.rows) ≡ true → reached (after u) q ≡ row_taken l p r q t c
-  takes u e f = ap (λ (x : Walked). reached x q) (state≡ refl refl e refl refl refl) ∙ sym (choose_yes _ _ f)
+  takes : (u : List ℕ) → u ≡ put_row t p.rows r → pick l.counts true (ltb p.rows l.rows) ≡ true → reached (after u) q ≡ row_taken l p r q t
+  takes u e f = ap (λ (x : Walked). reached x q) (state≡ refl refl e) ∙ sym (choose_yes _ _ f)
 
-  pub stored : (u : List ℕ) → p.rows < l.rows → u ≡ put_row t p.rows r → reached (after u) q ≡ row_taken l p r q t c
+  pub stored : (u : List ℕ) → p.rows < l.rows → u ≡ put_row t p.rows r → reached (after u) q ≡ row_taken l p r q t
   stored u h e = takes u e (fits l.counts (lt-ltb _ _ h))
     where
       fits : (b : Bool) {c : Bool} → c ≡ true → pick b true c ≡ true
       fits true f = refl
       fits false f = f
 
-  pub counted : Lends l t → l.counts ≡ true → reached (after t) q ≡ row_taken l p r q t c
-  counted h e = takes t (nowhere t p.rows r (h.none e)) (ap (λ (b : Bool). pick b true (ltb p.rows l.rows)) e)
+  pub counted : Lends l t → l.counts ≡ true → reached (after t) q ≡ row_taken l p r q t
+  counted h c = takes t (nowhere t p.rows r (h.none c)) (ap (λ (b : Bool). pick b true (ltb p.rows l.rows)) c)
 
-  pub no_row : l.rows ≤ p.rows → l.counts ≡ false → stopped 24 (p.entries + 1) ≡ row_taken l p r q t c
-  no_row h e = sym (choose_no _ _ (ap (λ (b : Bool). pick b true (ltb p.rows l.rows)) e ∙ le-ltb _ _ h))
+  pub no_row : l.rows ≤ p.rows → l.counts ≡ false → stopped 24 (p.entries + 1) ≡ row_taken l p r q t
+  no_row h c = sym (choose_no _ _ (ap (λ (b : Bool). pick b true (ltb p.rows l.rows)) c ∙ le-ltb _ _ h))

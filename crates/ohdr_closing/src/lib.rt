@@ -4,7 +4,6 @@ ghost use Rattle.std.specs.Prelude.{◌≡◌, List, ℕ, ◌+◌, ◌-◌, ◌�
 ghost use Rattle.format.specs.Format.{read};
 ghost use Rattle.helpers.specs.Answers.{place_out};
 ghost use Rattle.grammar.specs.Grammar.{block_end, header_end};
-ghost use Rattle.chunk_row.specs.Lists.{Lists};
 ghost use Rattle.lookup3.specs.Lookup3.{sum_matches};
 ghost use Rattle.ohdr_closing.specs.Answers.{Lends, row_taken, block_closed, walk_out};
 
@@ -14,20 +13,16 @@ use records::Refusal;
 use row::{Row, put_row};
 
 // How many entries are allowed and what refuses the next, how many rows there are, and whether the
-// messages beyond them are counted alone, as where there is no table, or refused; how many chunks are
-// allowed in all lists, and how many in each.
+// messages beyond them are counted alone, as where there is no table, or refused.
 #[derive(Drop)]
 pub struct Limits {
     pub entries: usize,
     pub beyond: Refusal,
     pub rows: usize,
     pub counts: bool,
-    pub chunks: usize,
-    pub list: usize,
 }
 
-// How far a walk has come: the next position, the rows taken, the entries begun. What it carries of
-// the lists of chunks is lent, so that an entry that is no layout does not touch it.
+// How far a walk has come: the next position, the rows taken, the entries begun.
 #[derive(Drop)]
 pub struct Progress {
     pub at: usize,
@@ -46,7 +41,7 @@ pub enum Walk {
 // there is none it is counted alone, or refused.
 pub fn take_row(table: &mut [u64], limits: Limits, from: Progress, row: Row, next: usize) -> Walk
     requires { Lends limits table.old × (from.rows ≤ from.entries) × (from.entries < limits.entries) }
-    ensures { (c : Lists) → walk_out result table.new c ≡ row_taken limits from row next table.old c }
+    ensures { walk_out result table.new ≡ row_taken limits from row next table.old }
 {
     let rows = from.rows;
     let begun = from.entries + 1;
@@ -89,7 +84,7 @@ fn block_end(file: &[u8], from: usize, whole: usize, at: usize) -> Place
 // What closes a block whose entries were walked up to `last`; reading resumes after its entry.
 pub fn close_block(file: &[u8], from: usize, whole: usize, last: Progress, next: usize) -> Walk
     requires { from + 4 ≤ whole }
-    ensures { (t : List ℕ) (c : Lists) → walk_out result t c ≡ block_closed file.now from whole last next t c }
+    ensures { (t : List ℕ) → walk_out result t ≡ block_closed file.now from whole last next t }
 {
     match block_end(file, from, whole, last.at) {
         Place::Refused(r) => Walk::Refused(r, last.entries),

@@ -4,13 +4,11 @@ use Rattle.std.specs.Prelude.{ℕ, ◌+◌, ◌-◌, eqb}
 use Rattle.std.specs.Int.Bits.{bit_and}
 use Rattle.format.specs.Bits.{bit}
 use Rattle.format.specs.Format.{Format, done, number, skip, here, bind, check, pick, nothing}
-use Rattle.format.specs.Rooms.{Room}
 use Rattle.parser.specs.declared.State.{State}
 use Rattle.ohdr_info.specs.Info.{link_info, group_info, attribute_info}
 use Rattle.ohdr_entry.specs.Continuations.{continuation}
 use Rattle.ohdr_storage.specs.Storage.{fill_old, fill, filter_pipeline}
 use Rattle.ohdr_layout.specs.DataLayouts.{data_layout}
-use Rattle.chunk_tree.specs.Tree.{layout_chunks}
 use Rattle.ohdr_datatype.specs.DataTypes.{data_type, type_levels}
 use Rattle.ohdr_dataspace.specs.DataSpaces.{data_space}
 use Rattle.ohdr_attribute.specs.Attributes.{attribute}
@@ -35,19 +33,16 @@ plain_body s type =
     pick (eqb type 21) (bind (attribute_info s) (λ a. done (messages.attribute_info a))) (
     done messages.nothing))))))))
 
--- a layout has a part or chunks, an attribute a name and perhaps a part
-unfoldable pub layout_body : State → Room → Format Kept
-layout_body s room =
-    bind (data_layout s) (λ l.
-    bind (layout_chunks s room l) (λ chunks.
-    done (messages.data_layout l chunks)))
+-- a layout has a part, an attribute a name and perhaps a part
+unfoldable pub layout_body : State → Format Kept
+layout_body s = bind (data_layout s) (λ l. done (messages.data_layout l))
 
 unfoldable pub attribute_body : State → Format Kept
 attribute_body s = bind (attribute s) (λ a. done (messages.attribute a))
 
--- a body by the type of its message, with room for so many chunks
-unfoldable pub body : State → Room → ℕ → Format Kept
-body s room type = pick (eqb type 8) (layout_body s room) (pick (eqb type 12) (attribute_body s) (plain_body s type))
+-- a body by the type of its message
+unfoldable pub body : State → ℕ → Format Kept
+body s type = pick (eqb type 8) (layout_body s) (pick (eqb type 12) (attribute_body s) (plain_body s type))
 
 -- the creation order, where header flag bit 2 is set
 unfoldable pub creation_order : ℕ → Format (Unit {0})
@@ -64,9 +59,9 @@ prefix header-flags =
     done {A = Prefix} (record { kind = type; size = size; flags = flags }))))))
 
 -- what an entry with this prefix holds, its body at b: a message, or a continuation
-unfoldable pub message_held : Room → State → Prefix → ℕ → Format Held
-message_held room s x b =
-    bind (body s room x.kind) (λ k. done (messages.message (record { type = x.kind; flags = x.flags; size = x.size; body = b; kept = k })))
+unfoldable pub message_held : State → Prefix → ℕ → Format Held
+message_held s x b =
+    bind (body s x.kind) (λ k. done (messages.message (record { type = x.kind; flags = x.flags; size = x.size; body = b; kept = k })))
 
 unfoldable pub continuation_held : State → Prefix → ℕ → Format Held
 continuation_held s x b = bind (continuation s) (λ c. done (messages.continuation c.offset c.length))
@@ -76,8 +71,8 @@ unfoldable pub closed : (State → Prefix → ℕ → Format Held) → State →
 closed F s x b = bind (F s x b) (λ h. here (λ c. skip (b + x.size - c) (done h)))
 
 -- an entry: its prefix up to b, and its body from b on
-unfoldable pub entry : State → ℕ → Room → Format Held
-entry s header-flags room =
+unfoldable pub entry : State → ℕ → Format Held
+entry s header-flags =
     bind (prefix header-flags) (λ x.
     here (λ b.
-    pick (eqb x.kind 16) (closed continuation_held s x b) (closed (message_held room) s x b)))
+    pick (eqb x.kind 16) (closed continuation_held s x b) (closed message_held s x b)))

@@ -2,5 +2,4 @@ pub mod Continuations
 pub mod Entries
 pub mod Answers
 pub mod Facts
-pub mod Tied
 pub mod Entered

@@ -1,20 +1,16 @@
 // An entry of an object header by itself (ohdr_message.rs, message_entry and message_kind): its
 // prefix, its body by its type, and the rest of its size.
-ghost use Rattle.std.specs.Prelude.{◌≡◌, ◌+◌, ◌-◌, ◌≤◌, length};
+ghost use Rattle.std.specs.Prelude.{◌≡◌, ◌+◌, ◌-◌, ◌≤◌};
 ghost use Rattle.format.specs.Format.{read, skip, nothing};
 ghost use Rattle.helpers.specs.Answers.{taken_out, place_out};
 ghost use Rattle.parser.specs.States.{Widths};
 ghost use Rattle.ohdr_info.specs.Info.{link_info, group_info, attribute_info};
 ghost use Rattle.ohdr_datatype.specs.DataTypes.{data_type};
 ghost use Rattle.ohdr_dataspace.specs.DataSpaces.{data_space};
-ghost use Rattle.chunk_row.specs.Lists.{Lists, carried, lists_of};
-ghost use Rattle.chunk_tree.specs.Tree.{layout_chunks};
 ghost use Rattle.ohdr_entry.specs.Continuations.{continuation, continuation_out};
 ghost use Rattle.ohdr_entry.specs.Entries.{creation_order, prefix as prefix_format, plain_body, layout_body, attribute_body, body, message_held, continuation_held, closed, entry};
-ghost use Rattle.ohdr_entry.specs.Answers.{position_of, prefix_out, figures_of, figures_on, body_out, body_on, chunks_on, room, seen, entry_out};
+ghost use Rattle.ohdr_entry.specs.Answers.{position_of, prefix_out, figures_of, body_out, seen, entry_out};
 
-use chunk_list::list_chunks;
-use chunk_tree::TreeRead;
 use element_number::{number_bits, number_case};
 use helpers::{
     Place, ReadAddress, ReadU8, ReadU16, ReadU64, Taken, address, le_u8, le_u16, take, varint,
@@ -29,7 +25,7 @@ use ohdr_info::{
 use ohdr_layout::{DataLayoutRead, message_data_layout};
 use ohdr_storage::{message_data_fill, message_data_fill_old, message_filter_pipeline};
 use parser::State;
-use records::{Address, DataLayout, LayoutData, OptionPart, Refusal};
+use records::{Address, OptionPart, Refusal};
 use row::Row;
 
 // Where a continuation block stands, and how many bytes it has.
@@ -180,71 +176,25 @@ fn plain_body(file: &[u8], at: usize, kind: u8, state: State) -> Place
     }
 }
 
-// The chunks of a chunked layout, listed; it has no part.
-fn body_chunks(
-    file: &[u8],
-    chunks: &mut [u64],
-    counts: &mut [usize],
-    at: usize,
-    state: State,
-    layout: DataLayout,
-    all: usize,
-    each: usize,
-) -> BodyRead
-    requires { Widths state × (length counts.old ≡ carried) }
-    ensures { body_on result (lists_of chunks.new counts.new) ≡ chunks_on (lists_of chunks.old counts.old) (read file.now (layout_chunks state (room all each counts.old) layout) at) }
-{
-    match list_chunks(file, chunks, counts, at, state, layout, all, each) {
-        TreeRead::Refused(r) => BodyRead::Refused(r),
-        TreeRead::Read(listed) => BodyRead::Read(
-            Figures {
-                name: OptionPart::None,
-                part: OptionPart::None,
-                number_case: 0,
-                number_bits: 0,
-            },
-            listed.at,
-        ),
-    }
-}
-
-// A layout: data that are bytes of the file are its part, and no chunk is listed; a chunked one has
-// no part, and its chunks are listed. The counts are of the chunks of all lists, which may have `all`
-// together and `each` by itself, and of the last list; behind them is room for the path in a tree.
-fn body_data_layout(
-    file: &[u8],
-    chunks: &mut [u64],
-    counts: &mut [usize],
-    at: usize,
-    state: State,
-    all: usize,
-    each: usize,
-) -> BodyRead
-    requires { Widths state × (length counts.old ≡ carried) }
-    ensures { body_on result (lists_of chunks.new counts.new) ≡ figures_on (lists_of chunks.old counts.old) (read file.now (layout_body state (room all each counts.old)) at) }
+// A layout: its data are its part.
+fn body_data_layout(file: &[u8], at: usize, state: State) -> BodyRead
+    requires { Widths state }
+    ensures { body_out result ≡ figures_of (read file.now (layout_body state) at) }
 {
     match message_data_layout(file, at, state) {
-        DataLayoutRead::Refused(r) => BodyRead::Refused(r),
         DataLayoutRead::Read(layout, next) => {
-            let form = layout.data;
-            match form {
-                LayoutData::Part(part) => {
-                    counts[1] = 0;
-                    BodyRead::Read(
-                        Figures {
-                            name: OptionPart::None,
-                            part: OptionPart::Some(part),
-                            number_case: 0,
-                            number_bits: 0,
-                        },
-                        next,
-                    )
-                }
-                LayoutData::Chunks(_) => {
-                    body_chunks(file, chunks, counts, next, state, layout, all, each)
-                }
-            }
+            let data = layout.data;
+            BodyRead::Read(
+                Figures {
+                    name: OptionPart::None,
+                    part: OptionPart::Some(data),
+                    number_case: 0,
+                    number_bits: 0,
+                },
+                next,
+            )
         }
+        DataLayoutRead::Refused(r) => BodyRead::Refused(r),
     }
 }
 
@@ -272,21 +222,12 @@ fn body_attribute(file: &[u8], at: usize, state: State) -> BodyRead
 }
 
 // A body by the type of its message.
-fn message_kind(
-    file: &[u8],
-    chunks: &mut [u64],
-    counts: &mut [usize],
-    at: usize,
-    kind: u8,
-    state: State,
-    all: usize,
-    each: usize,
-) -> BodyRead
-    requires { Widths state × (length counts.old ≡ carried) }
-    ensures { body_on result (lists_of chunks.new counts.new) ≡ figures_on (lists_of chunks.old counts.old) (read file.now (body state (room all each counts.old) kind) at) }
+fn message_kind(file: &[u8], at: usize, kind: u8, state: State) -> BodyRead
+    requires { Widths state }
+    ensures { body_out result ≡ figures_of (read file.now (body state kind) at) }
 {
     if kind == 8 {
-        return body_data_layout(file, chunks, counts, at, state, all, each);
+        return body_data_layout(file, at, state);
     }
     if kind == 12 {
         return body_attribute(file, at, state);
@@ -351,7 +292,7 @@ pub fn message_continuation(file: &[u8], at: usize, state: State) -> Continuatio
 // A continuation, closed. Its block is not read here.
 fn entry_continuation(file: &[u8], body_at: usize, prefix: Prefix, state: State) -> EntryRead
     requires { Widths state }
-    ensures { (s : Lists) → entry_out result s ≡ seen s (read file.now (closed continuation_held state prefix body_at) body_at) }
+    ensures { entry_out result ≡ seen (read file.now (closed continuation_held state prefix body_at) body_at) }
 {
     match message_continuation(file, body_at, state) {
         ContinuationRead::Refused(r) => EntryRead::Refused(r),
@@ -365,20 +306,11 @@ fn entry_continuation(file: &[u8], body_at: usize, prefix: Prefix, state: State)
 }
 
 // A message, closed.
-fn entry_message(
-    file: &[u8],
-    chunks: &mut [u64],
-    counts: &mut [usize],
-    body_at: usize,
-    prefix: Prefix,
-    state: State,
-    all: usize,
-    each: usize,
-) -> EntryRead
-    requires { Widths state × (length counts.old ≡ carried) }
-    ensures { entry_out result (lists_of chunks.new counts.new) ≡ seen (lists_of chunks.old counts.old) (read file.now (closed (message_held (room all each counts.old)) state prefix body_at) body_at) }
+fn entry_message(file: &[u8], body_at: usize, prefix: Prefix, state: State) -> EntryRead
+    requires { Widths state }
+    ensures { entry_out result ≡ seen (read file.now (closed message_held state prefix body_at) body_at) }
 {
-    match message_kind(file, chunks, counts, body_at, prefix.kind, state, all, each) {
+    match message_kind(file, body_at, prefix.kind, state) {
         BodyRead::Refused(r) => EntryRead::Refused(r),
         BodyRead::Read(figures, used) => {
             let Taken::At(next) = close_entry(file, body_at, prefix.size, used) else {
@@ -403,19 +335,10 @@ fn entry_message(
     }
 }
 
-// An entry by itself: its prefix, its body, and the rest of its size. A layout's chunks are listed.
-pub fn entry_alone(
-    file: &[u8],
-    chunks: &mut [u64],
-    counts: &mut [usize],
-    at: usize,
-    header_flags: u8,
-    state: State,
-    all: usize,
-    each: usize,
-) -> EntryRead
-    requires { Widths state × (length counts.old ≡ carried) }
-    ensures { entry_out result (lists_of chunks.new counts.new) ≡ seen (lists_of chunks.old counts.old) (read file.now (entry state header_flags (room all each counts.old)) at) }
+// An entry by itself: its prefix, its body, and the rest of its size.
+pub fn entry_alone(file: &[u8], at: usize, header_flags: u8, state: State) -> EntryRead
+    requires { Widths state }
+    ensures { entry_out result ≡ seen (read file.now (entry state header_flags) at) }
 {
     match entry_prefix(file, at, header_flags) {
         PrefixRead::Refused(r) => EntryRead::Refused(r),
@@ -423,7 +346,7 @@ pub fn entry_alone(
             if prefix.kind == 16 {
                 entry_continuation(file, body_at, prefix, state)
             } else {
-                entry_message(file, chunks, counts, body_at, prefix, state, all, each)
+                entry_message(file, body_at, prefix, state)
             }
         }
     }

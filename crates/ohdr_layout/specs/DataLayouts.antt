@@ -1,11 +1,10 @@
 -- The data layout message, by the section of the HDF5 File Format Specification. Assumes nothing: these are definitions.
-use Rattle.std.specs.Prelude.{ℕ, ◌*◌, ◌&&◌, eqb, leb, ltb}
-use Rattle.format.specs.Format.{Format, done, refuse, number, skip, bytes, here, there, bind, check, pick, nothing}
+use Rattle.std.specs.Prelude.{ℕ, eqb, ltb}
+use Rattle.format.specs.Format.{Format, done, refuse, number, skip, bytes, there, bind, check, pick, nothing}
 use Rattle.records.specs.declared.Address.{Address}
 use Rattle.records.specs.declared.Address.TheVariants as addresses
 use Rattle.records.specs.declared.OptionAddress.TheVariants as option_addresses
 use Rattle.records.specs.declared.Part.{Part}
-use Rattle.records.specs.declared.LayoutData.TheVariants as layouts
 use Rattle.records.specs.declared.DataLayout.{DataLayout}
 use Rattle.records.specs.Defaults.{empty_part}
 use Rattle.helpers.specs.Addresses.{address}
@@ -16,13 +15,9 @@ use Rattle.parser.specs.States.{address_valid}
 abbrev pub contiguous_part : ℕ → ℕ → Part
 contiguous_part address size = pick (eqb size 0) empty_part (record { position = address; length = size })
 
--- IV.A.2.i, compact storage: its raw data follow their size
+-- IV.A.2.i, compact storage: its raw data are passed over
 unfoldable pub compact : Format DataLayout
-compact =
-    number 2 (λ size.
-    here (λ position.
-    bind (bytes size nothing) (λ _.
-    done {A = DataLayout} (record { address = option_addresses.None; «data» = layouts.Part (contiguous_part position size) }))))
+compact = number 2 (λ size. skip size (done {A = DataLayout} (record { address = option_addresses.None; «data» = empty_part })))
 
 -- the raw data are bytes of the file where the address lies between 0 and end-of-file
 unfoldable pub data_from : State → ℕ → ℕ → Format Part
@@ -42,18 +37,9 @@ contiguous s =
     number s.size_of_lengths (λ size.
     check (ltb size 268435456) 13 (
     bind (raw_data_lem s size address) (λ raw_data.
-    done {A = DataLayout} (record { address = option_addresses.Some address; «data» = layouts.Part raw_data })))))
+    done {A = DataLayout} (record { address = option_addresses.Some address; «data» = raw_data })))))
 
--- chunked storage: dimensionality, the address of the tree of its chunks, and a size of each dimension. The tree stands in chunk_tree
-unfoldable pub chunked : State → Format DataLayout
-chunked s =
-    number 1 (λ dimensionality.
-    check (leb 1 dimensionality && leb dimensionality 5) 13 (
-    bind (address s.size_of_offsets) (λ address.
-    skip (4 * dimensionality) (
-    done {A = DataLayout} (record { address = option_addresses.Some address; «data» = layouts.Chunks dimensionality })))))
-
--- IV.A.2.i, data layout, version 3: compact (0), contiguous (1) and chunked (2) storage
+-- IV.A.2.i, data layout, version 3: compact (0) and contiguous (1) storage; chunked (2) is refused by its own number
 unfoldable pub data_layout : State → Format DataLayout
 data_layout s =
     number 1 (λ version.
@@ -61,5 +47,5 @@ data_layout s =
     number 1 (λ layout_class.
     pick (eqb layout_class 0) compact (
     pick (eqb layout_class 1) (contiguous s) (
-    pick (eqb layout_class 2) (chunked s) (
+    pick (eqb layout_class 2) (refuse 14) (
     refuse 13))))))

@@ -3,12 +3,12 @@ ghost use Rattle.std.specs.Prelude.{◌≡◌, take as take_list};
 ghost use Rattle.format.specs.Format.{read, bytes, nothing};
 ghost use Rattle.helpers.specs.Answers.{taken_out};
 ghost use Rattle.parser.specs.States.{Widths};
-ghost use Rattle.ohdr_layout.specs.DataLayouts.{compact, contiguous, chunked, contiguous_part, data_from, raw_data_lem, data_layout};
+ghost use Rattle.ohdr_layout.specs.DataLayouts.{compact, contiguous, contiguous_part, data_from, raw_data_lem, data_layout};
 ghost use Rattle.ohdr_layout.specs.Answers.{part_out, layout_out};
 
 use helpers::{ReadAddress, ReadU8, ReadU16, ReadU64, Taken, address, le_u8, le_u16, take, varint};
 use parser::State;
-use records::{Address, DataLayout, LayoutData, OptionAddress, Part, Refusal};
+use records::{Address, DataLayout, OptionAddress, Part, Refusal};
 
 // Data as bytes of the file, and the position after the fields that lead to them.
 #[derive(Drop)]
@@ -21,6 +21,26 @@ pub enum PartRead {
 pub enum DataLayoutRead {
     Read(DataLayout, usize),
     Refused(Refusal),
+}
+
+// Compact storage, after the class: its data are passed over.
+fn layout_compact(file: &[u8], at: usize) -> DataLayoutRead
+    ensures { layout_out result ≡ read file.now compact at }
+{
+    let ReadU16::Value(size, data_at) = le_u16(file, at) else {
+        return DataLayoutRead::Refused(Refusal::Short);
+    };
+    let Taken::At(next) = take(file, data_at, size as usize) else {
+        return DataLayoutRead::Refused(Refusal::Short);
+    };
+    let layout = DataLayout {
+        address: OptionAddress::None,
+        data: Part {
+            position: 0,
+            length: 0,
+        },
+    };
+    DataLayoutRead::Read(layout, next)
 }
 
 // The first `size` bytes of what is lent, as a part of it; all of them where there are fewer.
@@ -63,25 +83,6 @@ fn part_of(address: usize, size: usize) -> Part
             length: size,
         }
     }
-}
-
-// Compact storage, after the class: its data follow their size.
-fn layout_compact(file: &[u8], at: usize) -> DataLayoutRead
-    ensures { layout_out result ≡ read file.now compact at }
-{
-    let ReadU16::Value(size, position) = le_u16(file, at) else {
-        return DataLayoutRead::Refused(Refusal::Short);
-    };
-    let size = size as usize;
-    let Taken::At(next) = data_at(file, position, size) else {
-        return DataLayoutRead::Refused(Refusal::Short);
-    };
-    let part = part_of(position, size);
-    let layout = DataLayout {
-        address: OptionAddress::None,
-        data: LayoutData::Part(part),
-    };
-    DataLayoutRead::Read(layout, next)
 }
 
 // The data at an address between 0 and end-of-file; at any other there are none. The position stays
@@ -139,40 +140,11 @@ fn layout_contiguous(file: &[u8], at: usize, state: State) -> DataLayoutRead
         PartRead::Read(data, next) => {
             let layout = DataLayout {
                 address: OptionAddress::Some(address),
-                data: LayoutData::Part(data),
+                data,
             };
             DataLayoutRead::Read(layout, next)
         }
     }
-}
-
-// Chunked storage, after the class: where the tree of its chunks stands, and how many offsets its keys
-// have. The sizes of a chunk are passed over.
-fn layout_chunked(file: &[u8], at: usize, state: State) -> DataLayoutRead
-    requires { Widths state }
-    ensures { layout_out result ≡ read file.now (chunked state) at }
-{
-    let offsets = state.size_of_offsets;
-    let ReadU8::Value(dimensionality, address_at) = le_u8(file, at) else {
-        return DataLayoutRead::Refused(Refusal::Short);
-    };
-    if dimensionality < 1 {
-        return DataLayoutRead::Refused(Refusal::DataLayout);
-    }
-    if 5 < dimensionality {
-        return DataLayoutRead::Refused(Refusal::DataLayout);
-    }
-    let ReadAddress::Value(address, sizes_at) = address(file, address_at, offsets) else {
-        return DataLayoutRead::Refused(Refusal::Short);
-    };
-    let Taken::At(next) = take(file, sizes_at, 4 * (dimensionality as usize)) else {
-        return DataLayoutRead::Refused(Refusal::Short);
-    };
-    let layout = DataLayout {
-        address: OptionAddress::Some(address),
-        data: LayoutData::Chunks(dimensionality),
-    };
-    DataLayoutRead::Read(layout, next)
 }
 
 pub fn message_data_layout(file: &[u8], at: usize, state: State) -> DataLayoutRead
@@ -191,7 +163,7 @@ pub fn message_data_layout(file: &[u8], at: usize, state: State) -> DataLayoutRe
     match class {
         0 => layout_compact(file, fields_at),
         1 => layout_contiguous(file, fields_at, state),
-        2 => layout_chunked(file, fields_at, state),
+        2 => DataLayoutRead::Refused(Refusal::Chunked),
         _ => DataLayoutRead::Refused(Refusal::DataLayout),
     }
 }

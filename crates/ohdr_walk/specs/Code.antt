@@ -1,6 +1,5 @@
 -- The definition of a walk at the entries of a header, by the code's records. Assumes nothing: these are definitions.
-use Rattle.std.specs.Prelude.{ℕ, ◌≡◌, List, length, get_or}
-use Rattle.chunk_row.specs.Lists.{carried}
+use Rattle.std.specs.Prelude.{ℕ, List}
 use Rattle.grammar.specs.Grammar.{Source}
 use Rattle.grammar.specs.Walk.{Went}
 use Rattle.grammar.specs.Filled.{Walked, entry_on, run_on, walk_on}
@@ -18,9 +17,5 @@ entry_of file h l levels p s = entry_on (source_of file h) (limits_of l) levels 
 abbrev pub run_of : List ℕ → Header → Limits → ℕ → ℕ → ℕ → Walked → Went Walked
 run_of file h l levels e p s = run_on (source_of file h) (limits_of l) levels e p s
 
-abbrev pub walk_of : List ℕ → Header → Limits → ℕ → ℕ → ℕ → List ℕ → List ℕ → Went Walked
-walk_of file h l o e p t c = walk_on (source_of file h) (limits_of l) o e p t c
-
--- no chunk is listed yet
-abbrev pub Fresh : List ℕ → Type 0
-Fresh y = (length y ≡ carried) × (get_or y 0 0 ≡ 0) × (get_or y 1 0 ≡ 0)
+abbrev pub walk_of : List ℕ → Header → Limits → ℕ → ℕ → ℕ → List ℕ → Went Walked
+walk_of file h l o e p t = walk_on (source_of file h) (limits_of l) o e p t

@@ -8,7 +8,6 @@ use Rattle.grammar.specs.Walk.{Went, reached, stopped}
 use Rattle.grammar.specs.Filled.{Walked, Further, further as Goes-Further, run_ends, run_stops, run_goes}
 use Rattle.ohdr_entry.specs.Entries.{prefix_size}
 use Rattle.helpers.specs.Facts.{met}
-use Rattle.chunk_row.specs.Lists.{carried, lists_of}
 use Rattle.ohdr_closing.specs.Answers.{limits_of, walked_of, walk_out}
 use Rattle.ohdr_closing.specs.declared.Limits.{Limits}
 use Rattle.ohdr_closing.specs.declared.Progress.{Progress}
@@ -17,38 +16,33 @@ use Rattle.ohdr_closing.specs.declared.Walk.TheVariants.{Done, Refused}
 use Rattle.ohdr_walk.specs.Code.{source_of, entry_of, run_of}
 use Rattle.ohdr_walk.specs.declared.Header.{Header}
 
--- o, the definition's run from where the loop began, is its run from here; t and c are the table and the chunk table here, t₀ and c₀ those at the
--- beginning, and y what is carried of the lists
-pub record Along (file : List ℕ) (h : Header) (l : Limits) (levels end : ℕ) (o : Went Walked) (t₀ c₀ : List ℕ) (p : Progress) (t c y : List ℕ) : Type 0 where
-  pub same : o ≡ run_of file h l levels end p.at (walked_of p t (lists_of c y))
+-- o, the definition's run from where the loop began, is its run from here; t is the table here, and t₀ that at the beginning
+pub record Along (file : List ℕ) (h : Header) (l : Limits) (levels end : ℕ) (o : Went Walked) (t₀ : List ℕ) (p : Progress) (t : List ℕ) : Type 0 where
+  pub same : o ≡ run_of file h l levels end p.at (walked_of p t)
   pub few : p.entries ≤ l.entries
   pub fewer : p.rows ≤ p.entries
   pub inside : p.at ≤ length file
   pub long : length t ≡ length t₀
-  pub longer : length c ≡ length c₀
-  pub carries : length y ≡ carried
 
-module _ {file : List ℕ} {h : Header} {l : Limits} {levels end : ℕ} {o : Went Walked} {t₀ c₀ : List ℕ} {p : Progress} {t c y : List ℕ} (a : Along file h l levels end o t₀ c₀ p t c y) where
-  pub ends : end < p.at + prefix_size h.flags → o ≡ reached (walked_of p t (lists_of c y)) p.at
-  ends n = a.same ∙ run_ends (source_of file h) (limits_of l) levels end p.at (walked_of p t (lists_of c y)) n
+module _ {file : List ℕ} {h : Header} {l : Limits} {levels end : ℕ} {o : Went Walked} {t₀ : List ℕ} {p : Progress} {t : List ℕ} (a : Along file h l levels end o t₀ p t) where
+  pub ends : end < p.at + prefix_size h.flags → o ≡ reached (walked_of p t) p.at
+  ends n = a.same ∙ run_ends (source_of file h) (limits_of l) levels end p.at (walked_of p t) n
 
-  module _ (n : p.at + prefix_size h.flags ≤ end) (t' c' y' : List ℕ) where
-    pub stops : {w : Walk} {r : Refusal} {k : ℕ} → walk_out w t' (lists_of c' y') ≡ entry_of file h l levels p.at (walked_of p t (lists_of c y)) → w ≡ Refused r k → o ≡ stopped (refusal_number r) k
-    stops {w} {r} {k} f e = a.same ∙ run_stops (source_of file h) (limits_of l) levels end p.at (walked_of p t (lists_of c y)) (refusal_number r) k n (met (λ w. walk_out w t' (lists_of c' y')) f e)
+  module _ (n : p.at + prefix_size h.flags ≤ end) (t' : List ℕ) where
+    pub stops : {w : Walk} {r : Refusal} {k : ℕ} → walk_out w t' ≡ entry_of file h l levels p.at (walked_of p t) → w ≡ Refused r k → o ≡ stopped (refusal_number r) k
+    stops {w} {r} {k} f e = a.same ∙ run_stops (source_of file h) (limits_of l) levels end p.at (walked_of p t) (refusal_number r) k n (met (λ w. walk_out w t') f e)
 
-    module _ (d : levels ≤ 25) {w : Walk} {p' : Progress} (f : walk_out w t' (lists_of c' y') ≡ entry_of file h l levels p.at (walked_of p t (lists_of c y))) (e : w ≡ Done p') where
-      further : Further (source_of file h) (limits_of l) (walked_of p t (lists_of c y)) (walked_of p' t' (lists_of c' y')) p.at p'.at
-      further = Goes-Further (source_of file h) (limits_of l) levels end p.at (walked_of p t (lists_of c y)) d p'.at (walked_of p' t' (lists_of c' y')) (met (λ w. walk_out w t' (lists_of c' y')) f e)
+    module _ (d : levels ≤ 25) {w : Walk} {p' : Progress} (f : walk_out w t' ≡ entry_of file h l levels p.at (walked_of p t)) (e : w ≡ Done p') where
+      further : Further (source_of file h) (limits_of l) (walked_of p t) (walked_of p' t') p.at p'.at
+      further = Goes-Further (source_of file h) (limits_of l) levels end p.at (walked_of p t) d p'.at (walked_of p' t') (met (λ w. walk_out w t') f e)
 
-      pub goes : length t' ≡ length t → length c' ≡ length c → length y' ≡ length y → Along file h l levels end o t₀ c₀ p' t' c' y'
-      goes d₁ d₂ d₃ = record {
-        same = a.same ∙ run_goes (source_of file h) (limits_of l) levels end p.at (walked_of p t (lists_of c y)) d p'.at (walked_of p' t' (lists_of c' y')) (met (λ w. walk_out w t' (lists_of c' y')) f e) n;
+      pub goes : length t' ≡ length t → Along file h l levels end o t₀ p' t'
+      goes c = record {
+        same = a.same ∙ run_goes (source_of file h) (limits_of l) levels end p.at (walked_of p t) d p'.at (walked_of p' t') (met (λ w. walk_out w t') f e) n;
         few = further.few;
         fewer = further.fewer a.fewer;
         inside = further.inside a.inside;
-        long = d₁ ∙ a.long;
-        longer = d₂ ∙ a.longer;
-        carries = d₃ ∙ a.carries;
+        long = c ∙ a.long;
       }
 
       pub falls : l.entries - p'.entries < l.entries - p.entries

@@ -4,8 +4,7 @@ use Rattle.parser.specs.declared.State.{State}
 use Rattle.grammar.specs.Grammar.{Source}
 use Rattle.lookup3.specs.Lookup3.{sum_matches}
 use Rattle.ohdr_entry.specs.Entries.{prefix_size, entry}
-use Rattle.ohdr_entry.specs.Tied.{entry_tied}
 
 -- what is walked in a header with these flags
 abbrev pub source : List ℕ → State → ℕ → Source
-source file s flags = record { file = file; prefix = prefix_size flags; entry = entry s flags; tie = entry_tied file s flags; sum = sum_matches file }
+source file s flags = record { file = file; prefix = prefix_size flags; entry = entry s flags; sum = sum_matches file }

@@ -2,10 +2,9 @@
 // and collect_all_messages), with the rows of a lent table.
 ghost use Rattle.std.specs.Prelude.{◌≡◌, ◌≤◌, length};
 ghost use Rattle.parser.specs.States.{Widths};
-ghost use Rattle.chunk_row.specs.Lists.{carried, lists_of};
 ghost use Rattle.ohdr_closing.specs.Answers.{Lends, walked_of, walk_out};
 ghost use Rattle.ohdr_entry.specs.Entries.{prefix_size};
-ghost use Rattle.ohdr_walk.specs.Code.{entry_of, run_of, walk_of, Fresh};
+ghost use Rattle.ohdr_walk.specs.Code.{entry_of, run_of, walk_of};
 
 use helpers::{Place, signature};
 use ohdr_closing::{Limits, Progress, Walk, close_block, header_end, take_row};
@@ -48,8 +47,6 @@ fn again_limits(limits: Limits) -> Limits
         beyond,
         rows: limits.rows,
         counts: limits.counts,
-        chunks: limits.chunks,
-        list: limits.list,
     }
 }
 
@@ -59,31 +56,20 @@ fn again_limits(limits: Limits) -> Limits
 fn message_entry(
     file: &[u8],
     table: &mut [u64],
-    chunks: &mut [u64],
-    counts: &mut [usize],
     header: Header,
     limits: Limits,
     from: Progress,
     levels: usize,
 ) -> Walk
-    requires { Widths header.state × (levels ≤ 25) × (from.rows ≤ from.entries) × Lends limits table.old × (length counts.old ≡ carried) }
-    ensures { walk_out result table.new (lists_of chunks.new counts.new) ≡ entry_of file.now header limits levels from.at (walked_of from table.old (lists_of chunks.old counts.old)) }
+    requires { Widths header.state × (levels ≤ 25) × (from.rows ≤ from.entries) × Lends limits table.old }
+    ensures { walk_out result table.new ≡ entry_of file.now header limits levels from.at (walked_of from table.old) }
 {
     let beyond = limits.beyond;
     if limits.entries <= from.entries {
         return Walk::Refused(beyond, from.entries);
     }
     let begun = from.entries + 1;
-    match entry_alone(
-        file,
-        chunks,
-        counts,
-        from.at,
-        header.flags,
-        header.state,
-        limits.chunks,
-        limits.list,
-    ) {
+    match entry_alone(file, from.at, header.flags, header.state) {
         EntryRead::Refused(r) => Walk::Refused(r, begun),
         EntryRead::Message(row, next) => take_row(table, limits, from, row, next),
         EntryRead::Continuation(block, next) => {
@@ -104,19 +90,9 @@ fn message_entry(
                 entries: begun,
             };
             let inner = again(header);
-            let same = again_limits(limits);
+            let left = again_limits(limits);
             let end = whole - 4;
-            let last = match message_block(
-                file,
-                table,
-                chunks,
-                counts,
-                inner,
-                same,
-                first,
-                end,
-                levels - 1,
-            ) {
+            let last = match message_block(file, table, inner, left, first, end, levels - 1) {
                 Walk::Done(p) => p,
                 Walk::Refused(r, n) => {
                     return Walk::Refused(r, n);
@@ -133,23 +109,19 @@ fn message_entry(
 fn message_block(
     file: &[u8],
     table: &mut [u64],
-    chunks: &mut [u64],
-    counts: &mut [usize],
     header: Header,
     limits: Limits,
     from: Progress,
     end: usize,
     levels: usize,
 ) -> Walk
-    requires { Widths header.state × (levels ≤ 25) × (from.rows ≤ from.entries) × Lends limits table.old × (from.entries ≤ limits.entries) × (from.at ≤ length file.now) × (length counts.old ≡ carried) }
-    ensures { walk_out result table.new (lists_of chunks.new counts.new) ≡ run_of file.now header limits levels end from.at (walked_of from table.old (lists_of chunks.old counts.old)) }
+    requires { Widths header.state × (levels ≤ 25) × (from.rows ≤ from.entries) × Lends limits table.old × (from.entries ≤ limits.entries) × (from.at ≤ length file.now) }
+    ensures { walk_out result table.new ≡ run_of file.now header limits levels end from.at (walked_of from table.old) }
 {
     let prefix = message_prefix_size(header.flags);
     let mut progress = from;
     while progress.at + prefix <= end {
-        match message_entry(
-            file, table, chunks, counts, header, limits, progress, levels,
-        ) {
+        match message_entry(file, table, header, limits, progress, levels) {
             Walk::Refused(r, n) => {
                 return Walk::Refused(r, n);
             }
@@ -161,30 +133,27 @@ fn message_block(
     Walk::Done(progress)
 }
 
-// The entries of a header at `from`, from `at` on within its chunk's end, and what closes it. The two
-// counts, of the chunks of all lists and of the last, start at 0; behind them is room for the path in a
-// tree. Of a refusal the tables are no part: their words are left free, and rows of messages before it
-// may stand there. Whoever hands them on clears them.
+// The entries of a header at `from`, from `at` on within its chunk's end, and what closes it. Of a
+// refusal the table is no part: its words are left free, and rows of messages before it may stand
+// there. Whoever hands the table on clears it.
 pub fn collect_all_messages(
     file: &[u8],
     table: &mut [u64],
-    chunks: &mut [u64],
-    counts: &mut [usize],
     header: Header,
     limits: Limits,
     from: usize,
     at: usize,
     end: usize,
 ) -> Walk
-    requires { Widths header.state × Lends limits table.old × (at ≤ length file.now) × (from ≤ end) × Fresh counts.old }
-    ensures { walk_out result table.new (lists_of chunks.new counts.new) ≡ walk_of file.now header limits from end at table.old chunks.old }
+    requires { Widths header.state × Lends limits table.old × (at ≤ length file.now) × (from ≤ end) }
+    ensures { walk_out result table.new ≡ walk_of file.now header limits from end at table.old }
 {
     let first = Progress {
         at,
         rows: 0,
         entries: 0,
     };
-    let last = match message_block(file, table, chunks, counts, header, limits, first, end, 25) {
+    let last = match message_block(file, table, header, limits, first, end, 25) {
         Walk::Done(p) => p,
         Walk::Refused(r, n) => {
             return Walk::Refused(r, n);

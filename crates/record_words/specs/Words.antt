@@ -24,8 +24,6 @@ use Rattle.records.specs.declared.DataType.{DataType}
 use Rattle.records.specs.declared.LinkInfo.{LinkInfo}
 use Rattle.records.specs.declared.GroupInfo.{GroupInfo}
 use Rattle.records.specs.declared.AttributeInfo.{AttributeInfo}
-use Rattle.records.specs.declared.LayoutData.{LayoutData}
-use Rattle.records.specs.declared.LayoutData.TheVariants as layouts
 use Rattle.records.specs.declared.DataLayout.{DataLayout}
 
 -- a field that may be absent, as one of 64 bits
@@ -138,11 +136,6 @@ attribute_info_words a =
     ∷ (address_words a.fractal_heap_address
     ++ (address_words a.attribute_name_btree ++ address_words a.attribute_creation_order_btree))
 
--- position and length of a part, or the dimensionality of chunks; what a form lacks is 0
-abbrev pub layout_data_words : LayoutData → List ℕ
-layout_data_words (layouts.Part p) = p.position ∷ p.length ∷ 0 ∷ []
-layout_data_words (layouts.Chunks d) = 0 ∷ 0 ∷ d ∷ []
-
 -- the address, and then the data
 abbrev pub data_layout_words : DataLayout → List ℕ
-data_layout_words l = optional_address_words l.address ++ layout_data_words l.«data»
+data_layout_words l = optional_address_words l.address ++ (l.«data».position ∷ l.«data».length ∷ [])

@@ -1,12 +1,12 @@
-// The words of the records of an object, each at its place in an array of 67.
+// The words of the records of an object, each at its place in an array of 65.
 ghost use Rattle.std.specs.Prelude.{◌≡◌, [], ◌∷◌, ◌+◌, ◌≤◌};
 ghost use Rattle.std.proofs.lemmas.List.Edits.{sets};
-ghost use Rattle.record_words.specs.Words.{wide8, wide16, wide32, optional_words, address_words, optional_address_words, dimensions_words, elements_words, data_space_words, format_words, data_type_words, link_info_words, group_info_words, attribute_info_words, layout_data_words, data_layout_words};
+ghost use Rattle.record_words.specs.Words.{wide8, wide16, wide32, optional_words, address_words, optional_address_words, dimensions_words, elements_words, data_space_words, format_words, data_type_words, link_info_words, group_info_words, attribute_info_words, data_layout_words};
 
 use records::{
     Address, AttributeInfo, DataFormat, DataLayout, DataSpace, DataType, Dimensions, ElementCount,
-    GroupInfo, LayoutData, LinkInfo, OptionAddress, OptionDataFormat, OptionU8, OptionU16,
-    OptionU32, OptionU64,
+    GroupInfo, LinkInfo, OptionAddress, OptionDataFormat, OptionU8, OptionU16, OptionU32,
+    OptionU64,
 };
 
 // A field that may be absent, as one of 64 bits.
@@ -37,8 +37,8 @@ fn wide_u32(field: OptionU32) -> OptionU64
     }
 }
 
-fn put_optional(words: &mut [u64; 67], at: usize, field: OptionU64)
-    requires { at + 2 ≤ 67 }
+fn put_optional(words: &mut [u64; 65], at: usize, field: OptionU64)
+    requires { at + 2 ≤ 65 }
     ensures { words.new ≡ sets words.old at (optional_words field) }
 {
     match field {
@@ -54,8 +54,8 @@ fn put_optional(words: &mut [u64; 67], at: usize, field: OptionU64)
 }
 
 // Whether the address is undefined, and its number, which is 0 where it is.
-fn put_address(words: &mut [u64; 67], at: usize, address: Address)
-    requires { at + 2 ≤ 67 }
+fn put_address(words: &mut [u64; 65], at: usize, address: Address)
+    requires { at + 2 ≤ 65 }
     ensures { words.new ≡ sets words.old at (address_words address) }
 {
     match address {
@@ -70,8 +70,8 @@ fn put_address(words: &mut [u64; 67], at: usize, address: Address)
     }
 }
 
-fn put_optional_address(words: &mut [u64; 67], at: usize, field: OptionAddress)
-    requires { at + 3 ≤ 67 }
+fn put_optional_address(words: &mut [u64; 65], at: usize, field: OptionAddress)
+    requires { at + 3 ≤ 65 }
     ensures { words.new ≡ sets words.old at (optional_address_words field) }
 {
     match field {
@@ -86,8 +86,8 @@ fn put_optional_address(words: &mut [u64; 67], at: usize, field: OptionAddress)
     }
 }
 
-fn put_dimensions(words: &mut [u64; 67], at: usize, dimensions: Dimensions)
-    requires { at + 5 ≤ 67 }
+fn put_dimensions(words: &mut [u64; 65], at: usize, dimensions: Dimensions)
+    requires { at + 5 ≤ 65 }
     ensures { words.new ≡ sets words.old at (dimensions_words dimensions) }
 {
     words[at] = dimensions.count as u64;
@@ -98,7 +98,7 @@ fn put_dimensions(words: &mut [u64; 67], at: usize, dimensions: Dimensions)
 }
 
 // Whether the elements are too many, and their number, which is 0 where they are.
-fn put_elements(words: &mut [u64; 67], elements: ElementCount)
+fn put_elements(words: &mut [u64; 65], elements: ElementCount)
     ensures { words.new ≡ sets words.old 18 (elements_words elements) }
 {
     match elements {
@@ -113,7 +113,7 @@ fn put_elements(words: &mut [u64; 67], elements: ElementCount)
     }
 }
 
-pub fn put_data_space(words: &mut [u64; 67], space: DataSpace)
+pub fn put_data_space(words: &mut [u64; 65], space: DataSpace)
     ensures { words.new ≡ sets words.old 4 (data_space_words space) }
 {
     let kind = space.kind;
@@ -128,7 +128,7 @@ pub fn put_data_space(words: &mut [u64; 67], space: DataSpace)
 
 // The kind of a format and its seven fields.
 fn put_format_fields(
-    words: &mut [u64; 67],
+    words: &mut [u64; 65],
     kind: u64,
     bit_offset: u16,
     bit_precision: u16,
@@ -150,7 +150,7 @@ fn put_format_fields(
     words[32] = exponent_bias as u64;
 }
 
-fn put_format(words: &mut [u64; 67], format: OptionDataFormat)
+fn put_format(words: &mut [u64; 65], format: OptionDataFormat)
     ensures { words.new ≡ sets words.old 25 (format_words format) }
 {
     let OptionDataFormat::Some(known) = format else {
@@ -184,7 +184,7 @@ fn put_format(words: &mut [u64; 67], format: OptionDataFormat)
     }
 }
 
-pub fn put_data_type(words: &mut [u64; 67], datatype: DataType)
+pub fn put_data_type(words: &mut [u64; 65], datatype: DataType)
     ensures { words.new ≡ sets words.old 20 (data_type_words datatype) }
 {
     let list_size = datatype.list_size;
@@ -196,7 +196,7 @@ pub fn put_data_type(words: &mut [u64; 67], datatype: DataType)
     put_format(words, format);
 }
 
-pub fn put_link_info(words: &mut [u64; 67], info: LinkInfo)
+pub fn put_link_info(words: &mut [u64; 65], info: LinkInfo)
     ensures { words.new ≡ sets words.old 33 (link_info_words info) }
 {
     let maximum_creation_index = info.maximum_creation_index;
@@ -210,7 +210,7 @@ pub fn put_link_info(words: &mut [u64; 67], info: LinkInfo)
     put_optional_address(words, 40, address_btree_order);
 }
 
-pub fn put_group_info(words: &mut [u64; 67], info: GroupInfo)
+pub fn put_group_info(words: &mut [u64; 65], info: GroupInfo)
     ensures { words.new ≡ sets words.old 43 (group_info_words info) }
 {
     let maximum_compact_value = info.maximum_compact_value;
@@ -224,7 +224,7 @@ pub fn put_group_info(words: &mut [u64; 67], info: GroupInfo)
     put_optional(words, 50, wide_u16(length_of_entries));
 }
 
-pub fn put_attribute_info(words: &mut [u64; 67], info: AttributeInfo)
+pub fn put_attribute_info(words: &mut [u64; 65], info: AttributeInfo)
     ensures { words.new ≡ sets words.old 52 (attribute_info_words info) }
 {
     let fractal_heap_address = info.fractal_heap_address;
@@ -237,29 +237,11 @@ pub fn put_attribute_info(words: &mut [u64; 67], info: AttributeInfo)
     put_address(words, 58, attribute_creation_order_btree);
 }
 
-// Position and length of a part, or the dimensionality of chunks; what a form lacks is 0.
-fn put_layout_data(words: &mut [u64; 67], held: LayoutData)
-    ensures { words.new ≡ sets words.old 63 (layout_data_words held) }
-{
-    match held {
-        LayoutData::Part(part) => {
-            words[63] = part.position as u64;
-            words[64] = part.length as u64;
-            words[65] = 0;
-        }
-        LayoutData::Chunks(dimensionality) => {
-            words[63] = 0;
-            words[64] = 0;
-            words[65] = dimensionality as u64;
-        }
-    }
-}
-
-pub fn put_data_layout(words: &mut [u64; 67], layout: DataLayout)
+pub fn put_data_layout(words: &mut [u64; 65], layout: DataLayout)
     ensures { words.new ≡ sets words.old 60 (data_layout_words layout) }
 {
     let address = layout.address;
-    let held = layout.data;
     put_optional_address(words, 60, address);
-    put_layout_data(words, held);
+    words[63] = layout.data.position as u64;
+    words[64] = layout.data.length as u64;
 }

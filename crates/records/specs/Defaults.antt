@@ -16,7 +16,6 @@ use Rattle.records.specs.declared.AttributeInfo.{AttributeInfo}
 use Rattle.records.specs.declared.DataType.{DataType}
 use Rattle.records.specs.declared.Part.{Part}
 use Rattle.records.specs.declared.DataLayout.{DataLayout}
-use Rattle.records.specs.declared.LayoutData.TheVariants as layouts
 
 abbrev pub no_dimensions : Dimensions
 no_dimensions = record { sizes = replicate 4 0; count = 0 }
@@ -78,4 +77,4 @@ abbrev pub empty_part : Part
 empty_part = record { position = 0; length = 0 }
 
 abbrev pub default_data_layout : DataLayout
-default_data_layout = record { address = option_addresses.None; «data» = layouts.Part empty_part }
+default_data_layout = record { address = option_addresses.None; «data» = empty_part }

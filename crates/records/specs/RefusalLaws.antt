@@ -5,7 +5,7 @@ use Rattle.records.specs.Refusals.{refusal_number}
 use Rattle.records.specs.declared.Refusal.{Refusal}
 use Rattle.records.specs.declared.Refusal.TheVariants as refusals
 
--- each refusal at its number; none has the number 0 or 14
+-- each refusal at its number; no refusal has the number 0
 in_order : List Refusal
 in_order =
     refusals.Width
@@ -22,7 +22,7 @@ in_order =
     ∷ refusals.DataType
     ∷ refusals.DataFill
     ∷ refusals.DataLayout
-    ∷ refusals.Width
+    ∷ refusals.Chunked
     ∷ refusals.GroupInfo
     ∷ refusals.FilterPipeline
     ∷ refusals.Attribute
@@ -38,9 +38,6 @@ in_order =
     ∷ refusals.BaseAddress
     ∷ refusals.Checksum
     ∷ refusals.Names
-    ∷ refusals.TreeNode
-    ∷ refusals.TreeLevel
-    ∷ refusals.ChunkRows
     ∷ []
 
 given_back : (r : Refusal) → get_or in_order (refusal_number r) refusals.Width ≡ r
@@ -58,6 +55,7 @@ given_back refusals.LinkInfo = refl
 given_back refusals.DataType = refl
 given_back refusals.DataFill = refl
 given_back refusals.DataLayout = refl
+given_back refusals.Chunked = refl
 given_back refusals.GroupInfo = refl
 given_back refusals.FilterPipeline = refl
 given_back refusals.Attribute = refl
@@ -73,9 +71,6 @@ given_back refusals.SuperBlockVersion = refl
 given_back refusals.BaseAddress = refl
 given_back refusals.Checksum = refl
 given_back refusals.Names = refl
-given_back refusals.TreeNode = refl
-given_back refusals.TreeLevel = refl
-given_back refusals.ChunkRows = refl
 
 -- no refusal has the number 0
 pub refusal_positive : (r : Refusal) → refusal_number r ≡ 0 → ⊥

@@ -35,7 +35,9 @@ pub enum Refusal {
     DataFill,
     // 13: layout
     DataLayout,
-    // 15: group info; 14 was chunked data, and stays unused
+    // 14: chunked (class 2)
+    Chunked,
+    // 15: group info
     GroupInfo,
     // 16: filter pipeline
     FilterPipeline,
@@ -65,12 +67,6 @@ pub enum Refusal {
     Checksum,
     // 29: more than 32 names, or more than the answers lent
     Names,
-    // 30: a node of a chunk tree: its mark or type, no entries below the root, or an address not in the file
-    TreeNode,
-    // 31: a node of a chunk tree: its level
-    TreeLevel,
-    // 32: a chunk without a free row, or the 1,048,577th
-    ChunkRows,
 }
 
 impl Refusal {
@@ -91,6 +87,7 @@ impl Refusal {
             Refusal::DataType => 11,
             Refusal::DataFill => 12,
             Refusal::DataLayout => 13,
+            Refusal::Chunked => 14,
             Refusal::GroupInfo => 15,
             Refusal::FilterPipeline => 16,
             Refusal::Attribute => 17,
@@ -106,9 +103,6 @@ impl Refusal {
             Refusal::BaseAddress => 27,
             Refusal::Checksum => 28,
             Refusal::Names => 29,
-            Refusal::TreeNode => 30,
-            Refusal::TreeLevel => 31,
-            Refusal::ChunkRows => 32,
         }
     }
 }
@@ -136,12 +130,6 @@ pub enum OptionU32 {
 pub enum OptionU64 {
     None,
     Some(u64),
-}
-
-#[derive(Drop)]
-pub enum OptionUsize {
-    None,
-    Some(usize),
 }
 
 // An address of the file, or the undefined one, at which nothing stands.
@@ -345,19 +333,12 @@ pub enum OptionPart {
     Some(Part),
 }
 
-// A layout's data: bytes of the file, or chunks, whose keys have so many offsets.
-#[derive(Drop)]
-pub enum LayoutData {
-    Part(Part),
-    Chunks(u8),
-}
-
-// A layout's data, beside the address that the layout has for them or for the tree of their chunks.
-// Compact data have no address.
+// A layout's data as bytes of the file, beside the address that the layout has for them. Compact
+// data have no address.
 #[derive(Drop)]
 pub struct DataLayout {
     pub address: OptionAddress,
-    pub data: LayoutData,
+    pub data: Part,
 }
 
 impl DataLayout {
@@ -366,10 +347,10 @@ impl DataLayout {
     {
         Self {
             address: OptionAddress::None,
-            data: LayoutData::Part(Part {
+            data: Part {
                 position: 0,
                 length: 0,
-            }),
+            },
         }
     }
 }

@@ -109,22 +109,14 @@ pub fn kind_at(table: &[u64], i: usize) -> u64
     table[i * ROW_WORDS]
 }
 
-// Every word from a place on zero.
-pub fn clear_from(table: &mut [u64], from: usize)
-    requires { from ≤ length table.old }
-    ensures { table.new ≡ take from table.old ++ replicate (length table.old - from) 0 }
-{
-    let mut i = from;
-    while i < table.len() {
-        table[i] = 0;
-        i += 1;
-    }
-}
-
 // Every word behind the first `rows` rows zero.
 pub fn clear_behind(table: &mut [u64], rows: usize)
     requires { rows * row_words ≤ length table.old }
     ensures { table.new ≡ take (rows * row_words) table.old ++ replicate (length table.old - rows * row_words) 0 }
 {
-    clear_from(table, rows * ROW_WORDS);
+    let mut i = rows * ROW_WORDS;
+    while i < table.len() {
+        table[i] = 0;
+        i += 1;
+    }
 }

@@ -1,9 +1,7 @@
 pub mod Fields
-pub mod AddressLaws
 pub mod Tie
 pub mod Converse
 pub mod TieMore
-pub mod Pairs
 pub mod Versions
 pub mod Untested
 pub mod Headers
@@ -12,7 +10,6 @@ pub mod Chunks
 pub mod Dataspaces
 pub mod Infos
 pub mod Storage
-pub mod Trees
 pub mod Datatypes
 pub mod DatatypeBounds
 pub mod DatatypeRules
@@ -20,5 +17,3 @@ pub mod Numbers
 pub mod Attributes
 pub mod AttributeRules
 pub mod Examples
-pub mod TreeLaws
-pub mod TreeExamples

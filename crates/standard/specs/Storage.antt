@@ -120,35 +120,12 @@ contiguous_storage size_of_offsets size_of_lengths =
     number size_of_lengths (λ size.
     done {A = ContiguousStorage} (record { address = address; size = size })))
 
--- Layout: Chunked Storage Property Description. Dimensionality counts Dataset Element Size, which is the last of the sizes, as the text of the versions
--- 1 and 2 says: it is one more than the number of dimensions of the dataset.
-pub record ChunkedStorage : Type 0 where
-  pub dimensionality : ℕ
-  pub address : Address
-  pub dimension_size : List ℕ
-  pub dataset_element_size : ℕ
-
-unfoldable pub chunked_storage : ℕ → Format ChunkedStorage
-chunked_storage size_of_offsets =
-    number 1 (λ dimensionality.
-    only (leb 1 dimensionality) (
-    bind (address size_of_offsets) (λ address.
-    bind (many (dimensionality - 1) (number 4 done)) (λ dimension_size.
-    number 4 (λ dataset_element_size.
-    done {A = ChunkedStorage} (record {
-      dimensionality = dimensionality;
-      address = address;
-      dimension_size = dimension_size;
-      dataset_element_size = dataset_element_size;
-    }))))))
-
--- the properties of the layout classes 0, 1 and 2
+-- the properties of the layout classes 0 and 1
 pub data LayoutProperties : Type 0 where
   compact : CompactStorage → LayoutProperties
   contiguous : ContiguousStorage → LayoutProperties
-  chunked : ChunkedStorage → LayoutProperties
 
--- Layout: Data Layout Message (Version 3), of layout class compact (0), contiguous (1) or chunked (2)
+-- Layout: Data Layout Message (Version 3), of layout class compact (0) or contiguous (1)
 pub record DataLayout3 : Type 0 where
   pub version : ℕ
   pub layout_class : ℕ
@@ -158,8 +135,7 @@ unfoldable pub layout_properties : ℕ → ℕ → ℕ → Format LayoutProperti
 layout_properties size_of_offsets size_of_lengths layout_class =
     pick (eqb layout_class 0) (marked compact compact_storage) (
     pick (eqb layout_class 1) (marked contiguous (contiguous_storage size_of_offsets size_of_lengths)) (
-    pick (eqb layout_class 2) (marked chunked (chunked_storage size_of_offsets)) (
-    refuse 0)))
+    refuse 0))
 
 unfoldable pub data_layout3 : ℕ → ℕ → Format DataLayout3
 data_layout3 size_of_offsets size_of_lengths =

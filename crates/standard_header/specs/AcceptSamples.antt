@@ -21,7 +21,7 @@ its_block q c o h e =
     let i : o ≡ 19 = cc in
     (u.0, i, ap (λ (y : ContinuationMessage). y.length) u.1)
 
-pub a_header_that_is_accepted : ReadObjectHeader continued_file 2 2 31 0 12 0 (plain_message 16 11 4 ∷ plain_message 0 27 0 ∷ [])
+pub a_header_that_is_accepted : ReadObjectHeader continued_file 2 2 31 0 12 (plain_message 16 11 4 ∷ plain_message 0 27 0 ∷ [])
 unfolding a_whole_header levels
 a_header_that_is_accepted =
     record {
@@ -32,12 +32,10 @@ a_header_that_is_accepted =
         prefix_read = record { no_attribute_numbers = refl; small = omega arith };
         few_levels = omega arith;
         messages_read = (
-          record { flags = refl; chunks = []; body_read = λ n. absurd (n refl); no_chunks = λ e. refl; block_read = λ q c o t h e. let w = its_block q c o h e in (omega (arith, w.0), omega (arith, w.1), omega (arith, w.1, w.2)) },
+          record { flags = refl; body_read = λ n. absurd (n refl); block_read = λ q c o t h e. let w = its_block q c o h e in (omega (arith, w.0), omega (arith, w.1), omega (arith, w.1, w.2)) },
           (
             record {
               flags = refl;
-              chunks = [];
-              no_chunks = λ e. refl;
               body_read = λ n. not_read {type = 0} (none_among 0 read_types refl);
               block_read = λ q c o t h e. absurd (omega (arith, t));
             },
@@ -45,8 +43,6 @@ a_header_that_is_accepted =
           ),
         );
         few = omega arith;
-        few_chunks = omega arith;
       };
       room = omega arith;
-      chunk_room = omega arith;
     }

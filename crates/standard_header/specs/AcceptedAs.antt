@@ -9,8 +9,6 @@ use Rattle.records.specs.declared.DataType.{DataType}
 use Rattle.records.specs.declared.DataLayout.{DataLayout}
 use Rattle.records.specs.declared.Attribute as ours
 use Rattle.row.specs.Clearing.{table}
-use Rattle.chunk_row.specs.declared.Chunk.{Chunk}
-use Rattle.chunk_row.specs.Chunks.{chunk_table}
 use Rattle.parser.specs.declared.State.{State}
 use Rattle.parser.specs.States.{state_for}
 use Rattle.grammar.specs.Message.{Kept, Message, Held, message, continuation}
@@ -22,27 +20,23 @@ use Rattle.data_object.specs.declared.Answer.TheVariants as answers
 use Rattle.data_object.specs.declared.DataObject.{DataObject}
 use Rattle.data_object.specs.Decoded.{wins_in}
 use Rattle.standard.specs.Tie.{Every}
-use Rattle.standard.specs.Pairs.{OneByOne}
 use Rattle.standard.specs.Headers.{HeaderMessage}
-use Rattle.standard.specs.Trees.{KeyAndChild}
 use Rattle.standard_messages.specs.Same.{SameSpace, SameLinkInfo, SameGroupInfo, SameAttributeInfo, SameLayout}
-use Rattle.standard_messages.specs.SameTrees.{SameChunk}
 use Rattle.standard_datatype.specs.Same.{SameType}
 use Rattle.standard_attribute.specs.Same.{SameName, SameAttribute}
 use Rattle.standard_header.specs.Same.{SameMessage, SameContinued, no_continuations}
-use Rattle.standard_header.specs.ReadHeaders.{ReadBody, dataspace, link_info_lem, datatype, fill_value_old_lem, fill_value, data_layout_lem, group_info_lem, attribute_info_lem, filter_pipeline_lem, attribute, attribute_of_version_1, attribute_of_version_3, not_read, ReadMessage, last_read, CheckedObjectHeader, next_after}
+use Rattle.standard_header.specs.ReadHeaders.{ReadBody, dataspace, link_info_lem, datatype, fill_value_old_lem, fill_value, data_layout_lem, group_info_lem, attribute_info_lem, filter_pipeline_lem, attribute, attribute_of_version_1, attribute_of_version_3, not_read, ReadMessage, CheckedObjectHeader, next_after}
 
 module _ (file : List ℕ) (s : State) where
   -- What is kept of a message: the record with the fields of the specification's message that stands in its data. Of an attribute that is accepted by
-  -- its name alone it is the name; of a layout its chunks too, those of the specification's tree, one by one; of fill values, of pipelines and of types
-  -- that are not read nothing is.
-  abbrev pub BodyAs : {b e type : ℕ} {chunks : List KeyAndChild} → ReadBody file s b e type chunks → Kept → Type 0
+  -- its name alone it is the name; of fill values, of pipelines and of types that are not read nothing is.
+  abbrev pub BodyAs : {b e type : ℕ} → ReadBody file s b e type → Kept → Type 0
   BodyAs (dataspace c x h l r) k = (d : DataSpace) × (k ≡ messages.data_space d) × SameSpace d x
   BodyAs (link_info_lem c x h l) k = (i : LinkInfo) × (k ≡ messages.link_info i) × SameLinkInfo i x
   BodyAs (datatype longest c x h l r) k = (t : DataType) × (k ≡ messages.data_type t) × SameType t x
   BodyAs (fill_value_old_lem c x h l) k = k ≡ messages.nothing
   BodyAs (fill_value c x h l r) k = k ≡ messages.nothing
-  BodyAs (data_layout_lem c x chunks h l r) k = (d : DataLayout) × (cs : List Chunk) × (k ≡ messages.data_layout d cs) × SameLayout s d x × OneByOne SameChunk cs chunks
+  BodyAs (data_layout_lem c x h l r) k = (d : DataLayout) × (k ≡ messages.data_layout d) × SameLayout s d x
   BodyAs (group_info_lem c x h l) k = (g : GroupInfo) × (k ≡ messages.group_info g) × SameGroupInfo g x
   BodyAs (attribute_info_lem c x h l) k = (i : AttributeInfo) × (k ≡ messages.attribute_info i) × SameAttributeInfo i x
   BodyAs (filter_pipeline_lem c x h l r) k = k ≡ messages.nothing
@@ -67,19 +61,14 @@ module _ (file : List ℕ) (s : State) where
   EntriesAs (x ∷ xs) r [] = ⊥
   EntriesAs (x ∷ xs) r (i ∷ is) = HeldAs x r.0 i.held × EntriesAs xs r.1 is
 
--- Over a file, the widths of offsets and lengths, an end-of-file address, a header position, a table of n words, which ends as t, and a chunk table of k
--- words, which ends as c.
-module _ (file : List ℕ) (offsets lengths end at n k : ℕ) where
+-- Over a file, the widths of offsets and lengths, an end-of-file address, a header position, and a table of n words, which ends as t.
+module _ (file : List ℕ) (offsets lengths end at n : ℕ) where
   -- the call's answer: it ends where the header ends, and counts its messages; they are the entries, those that are no continuations are the rows, in
-  -- their order, and the records are those that win; the chunk table has the chunks of the last layout, one a row, in the order of the specification's tree
-  pub record AcceptedAs (xs : List HeaderMessage) (h : CheckedObjectHeader file offsets lengths end at xs) (r : DataObject) (t c : List ℕ) : Type 0 where
+  -- their order, and the records are those that win
+  pub record AcceptedAs (xs : List HeaderMessage) (h : CheckedObjectHeader file offsets lengths end at xs) (r : DataObject) (t : List ℕ) : Type 0 where
     pub answer : r.answer ≡ answers.Read (next_after h.header) (length xs)
     pub row_count : r.rows ≡ length (no_continuations xs)
     pub items : List Item
     pub entries : EntriesAs file (state_for offsets lengths end) xs h.messages_read items
     pub table_rows : t ≡ table n (rows_of items)
     pub records : wins_in r ≡ wins_of (messages_of items)
-    pub chunks : List Chunk
-    pub same_chunks : OneByOne SameChunk chunks (last_read file (state_for offsets lengths end) [] xs h.messages_read)
-    pub chunk_count : r.chunks ≡ length (last_read file (state_for offsets lengths end) [] xs h.messages_read)
-    pub chunk_rows : c ≡ chunk_table k chunks

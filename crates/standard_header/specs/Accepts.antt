@@ -1,12 +1,11 @@
--- A header of the specification that no listed limit or refusal turns back passes the check, and is accepted by the call, with exactly its messages and
--- the chunks of its last layout. Assumes nothing.
-use Rattle.std.specs.Prelude.{ℕ, ◌≡◌, refl, List, [], length}
+-- A header of the specification that no listed limit or refusal turns back passes the check, and is accepted by the call, with exactly its messages.
+-- Assumes nothing.
+use Rattle.std.specs.Prelude.{ℕ, ◌≡◌, refl, List, length}
 use Rattle.std.proofs.Common.{subst, ap, ◌∙◌, arith}
 use Rattle.row.specs.Clearing.{table}
-use Rattle.chunk_row.specs.Chunks.{chunk_table}
 use Rattle.parser.specs.States.{state_for}
 use Rattle.grammar.specs.Grammar.{Item}
-use Rattle.grammar.specs.Table.{messages, messages_of, rows_of, last_list}
+use Rattle.grammar.specs.Table.{messages, messages_of, rows_of}
 use Rattle.data_object_header.specs.Headers.{Checkable}
 use Rattle.data_object_header.specs.HeaderLaws.{header_unique}
 use Rattle.data_object_winners.specs.Wins.{wins_of}
@@ -17,13 +16,11 @@ use Rattle.data_object.specs.declared.Answer.{Answer}
 use Rattle.data_object.specs.declared.Answer.TheVariants as answers
 use Rattle.data_object.specs.declared.DataObject.{DataObject}
 use Rattle.data_object.specs.Decoded.{Accepted, Meant, Decoded}
-use Rattle.standard.specs.Pairs.{as_many}
 use Rattle.standard.specs.Headers.{HeaderMessage}
-use Rattle.standard_messages.specs.SameTrees.{SameChunk}
 use Rattle.standard_header.specs.Same.{no_continuations}
-use Rattle.standard_header.specs.ReadHeaders.{last_read, CheckedObjectHeader, ReadObjectHeader, next_after}
+use Rattle.standard_header.specs.ReadHeaders.{CheckedObjectHeader, ReadObjectHeader, next_after}
 use Rattle.standard_header.specs.AcceptedAs.{AcceptedAs}
-use Rattle.standard_header.specs.AsLaws.{entries_counted, ChunksCounted, chunks_counted}
+use Rattle.standard_header.specs.AsLaws.{entries_counted}
 use Rattle.standard_header.specs.HeaderReads.{HeaderRead, header_has_reading}
 
 -- Over a file, the widths of offsets and lengths, an end-of-file address, and a header position.
@@ -34,21 +31,13 @@ module _ (file : List ℕ) (offsets lengths end at : ℕ) (xs : List HeaderMessa
     checkable : Checkable file offsets lengths end at (next_after h.header) of.items
     entry_count : length of.items ≡ length xs
     row_count : messages of.items ≡ length (no_continuations xs)
-    listed : ChunksCounted file (state_for offsets lengths end) xs h.messages_read of.items
 
   has_reading : (h : CheckedObjectHeader file offsets lengths end at xs) → Read h
   has_reading h =
       let s = state_for offsets lengths end in
       let y = header_has_reading file s at xs h.header h.messages_read h.prefix_read h.few_levels in
       let k = entries_counted file s xs h.messages_read y.items y.related in
-      let c = chunks_counted file s xs h.messages_read y.items y.related in
-      record {
-        of = y;
-        checkable = record { widths = h.widths; small = h.small; reading = y.reading; few = omega (arith, k.0, h.few); within = omega (arith, c.total, h.few_chunks) };
-        entry_count = k.0;
-        row_count = k.1;
-        listed = c;
-      }
+      record { of = y; checkable = record { widths = h.widths; small = h.small; reading = y.reading; few = omega (arith, k.0, h.few) }; entry_count = k.0; row_count = k.1 }
 
   -- the check passes it, with its end and its numbers
   pub header_passes : (h : CheckedObjectHeader file offsets lengths end at xs) (a : CheckAnswer) → Checked file offsets lengths end at a
@@ -60,19 +49,16 @@ module _ (file : List ℕ) (offsets lengths end at : ℕ) (xs : List HeaderMessa
       figured : (next : ℕ) {i j k l : ℕ} → i ≡ j → k ≡ l → checks.Passed (record { next = next; entries = i; rows = k }) ≡ checks.Passed (record { next = next; entries = j; rows = l })
       figured next e d = rw (e, d) refl
 
-  -- and with a table of n words, which has the rows, and a chunk table of k words, which has the rows of each layout: the call accepts it
-  pub header_is_accepted : (n k : ℕ) (h : ReadObjectHeader file offsets lengths end at n k xs) (r : DataObject) (t c : List ℕ) → Decoded file offsets lengths end at n k r t c
-      → AcceptedAs file offsets lengths end at n k xs h.checked r t c
-  header_is_accepted n k h r t c d =
+  -- and with a table of n words, which has the rows: the call accepts it
+  pub header_is_accepted : (n : ℕ) (h : ReadObjectHeader file offsets lengths end at n xs) (r : DataObject) (t : List ℕ) → Decoded file offsets lengths end at n r t
+      → AcceptedAs file offsets lengths end at n xs h.checked r t
+  header_is_accepted n h r t d =
       let y = has_reading h.checked in
       let is = y.of.items in
       let next = next_after h.checked.header in
-      let e = d.accepts next is (record { checkable = y.checkable; room = omega (arith, y.row_count, h.room); lists = omega (arith, y.listed.long, h.chunk_room) }) in
-      let f : r.answer ≡ answers.Read next (length xs) = e ∙ ap (λ (c : ℕ). answers.Read next c) y.entry_count in
-      let a : Accepted file offsets lengths end at n k next (length xs) r t c = subst (λ (x : Answer). Meant file offsets lengths end at n k x r t c) f d.meant in
+      let f : r.answer ≡ answers.Read next (length xs) = d.accepts next is (record { checkable = y.checkable; room = omega (arith, y.row_count, h.room) }) ∙ ap (λ (c : ℕ). answers.Read next c) y.entry_count in
+      let a : Accepted file offsets lengths end at n next (length xs) r t = subst (λ (x : Answer). Meant file offsets lengths end at n x r t) f d.meant in
       let u = header_unique file (state_for offsets lengths end) at next next a.items is a.readable.checkable.reading y.of.reading in
-      let zs = last_read file (state_for offsets lengths end) [] xs h.checked.messages_read in
-      let same = y.listed.last [] [] tt in
       record {
         answer = f;
         row_count = a.rows ∙ ap messages u.1 ∙ y.row_count;
@@ -80,8 +66,4 @@ module _ (file : List ℕ) (offsets lengths end at : ℕ) (xs : List HeaderMessa
         entries = y.of.related;
         table_rows = a.table ∙ ap (λ (zs : List Item). table n (rows_of zs)) u.1;
         records = a.records ∙ ap (λ (zs : List Item). wins_of (messages_of zs)) u.1;
-        chunks = last_list (messages_of is);
-        same_chunks = same;
-        chunk_count = a.chunks ∙ ap (λ (zs : List Item). length (last_list (messages_of zs))) u.1 ∙ as_many SameChunk (last_list (messages_of is)) zs same;
-        chunk_rows = a.list ∙ ap (λ (zs : List Item). chunk_table k (last_list (messages_of zs))) u.1;
       }

@@ -1,10 +1,8 @@
 -- What stands in the body of a message is the specification's message of its type. Assumes nothing.
 use Rattle.std.specs.Prelude.{ℕ, ◌≤◌, ◌≡◌, refl, Bool, true, false, List, eqb}
-use Rattle.std.proofs.Math.Path.{sym}
 use Rattle.std.proofs.Common.{ap, arith, eqb-true}
 use Rattle.std.proofs.lemmas.Bool.{eqb-false}
 use Rattle.format.specs.Format.{Format, done, bind, pick, Stands}
-use Rattle.format.specs.Rooms.{any}
 use Rattle.format.specs.Standing.{stands_bind}
 use Rattle.records.specs.declared.DataLayout.{DataLayout}
 use Rattle.records.specs.declared.DataSpace.{DataSpace}
@@ -20,8 +18,6 @@ use Rattle.grammar.specs.Message as messages
 use Rattle.ohdr_info.specs.Info.{link_info, group_info, attribute_info}
 use Rattle.ohdr_storage.specs.Storage.{fill_old, fill, filter_pipeline}
 use Rattle.ohdr_layout.specs.DataLayouts.{data_layout}
-use Rattle.chunk_row.specs.declared.Chunk.{Chunk}
-use Rattle.chunk_tree.specs.Tree.{layout_chunks}
 use Rattle.ohdr_datatype.specs.DataTypes.{data_type, type_levels}
 use Rattle.ohdr_dataspace.specs.DataSpaces.{data_space}
 use Rattle.ohdr_attribute.specs.Attributes.{attribute}
@@ -29,13 +25,12 @@ use Rattle.ohdr_entry.specs.Entries.{body, plain_body, layout_body, attribute_bo
 use Rattle.standard_messages.specs.Dataspaces.{dataspace_tied}
 use Rattle.standard_messages.specs.Infos.{link_info_tied, group_info_tied, attribute_info_tied}
 use Rattle.standard_messages.specs.Layouts.{fill_value_old_tied, data_layout_tied}
-use Rattle.standard_messages.specs.Trees.{chunks_are}
 use Rattle.standard_messages.specs.Fills.{fill_value_tied}
 use Rattle.standard_messages.specs.Filters.{filter_pipeline_tied}
 use Rattle.standard_datatype.specs.Ties.{datatype_tied, header_fields_tied}
 use Rattle.standard_attribute.specs.Ties.{attribute_tied, name_tied}
 use Rattle.standard_attribute.specs.Values.{text_value_lem, number_value_lem, value_is_read}
-use Rattle.standard_header.specs.Is.{SpaceAt, LinkInfoAt, LayoutAt, ChunksAt, AttributeInfoAt, TextAt, NumberAt, ValueAt, GroupInfoAt, TypeAt, BodyIs, dataspace, link_info_lem, datatype, fill_value_old_lem, fill_value, data_layout_lem, group_info_lem, filter_pipeline_lem, attribute_message_lem, attribute_info_lem, not_read}
+use Rattle.standard_header.specs.Is.{SpaceAt, LinkInfoAt, LayoutAt, AttributeInfoAt, TextAt, NumberAt, ValueAt, GroupInfoAt, TypeAt, BodyIs, dataspace, link_info_lem, datatype, fill_value_old_lem, fill_value, data_layout_lem, group_info_lem, filter_pipeline_lem, attribute_message_lem, attribute_info_lem, not_read}
 
 module _ (file : List ℕ) (s : State) where
   pub space_at : (b q : ℕ) (d : DataSpace) → Stands file (data_space s) b q d → SpaceAt file s b q d
@@ -46,30 +41,6 @@ module _ (file : List ℕ) (s : State) where
 
   pub layout_at : (b q : ℕ) (l : DataLayout) → Stands file (data_layout s) b q l → LayoutAt file s b q l
   layout_at b q l h = (data_layout_tied s).ties file b q l h
-
-  pub chunks_at : (b m q : ℕ) (l : DataLayout) (cs : List Chunk) → Stands file (data_layout s) b m l → Stands file (layout_chunks s any l) m q cs → ChunksAt file s b q l cs
-  chunks_at b m q l cs h i =
-      let y = layout_at b m l h in
-      let z = chunks_are file s l y.value.properties y.related m q cs i in
-      put z.0 (record { fields = y; chunks = z.1 })
-    where
-      put : m ≡ q → ChunksAt file s b m l cs → ChunksAt file s b q l cs
-      put e x = rw (← e) x
-
-  -- what stands in the body of a layout
-  pub record LayoutBodyIs (b q : ℕ) (k : Kept) : Type 0 where
-    pub layout : DataLayout
-    pub chunks : List Chunk
-    pub kept : k ≡ messages.data_layout layout chunks
-    pub at : ChunksAt file s b q layout chunks
-
-  pub layout_body_is : (b q : ℕ) (k : Kept) → Stands file (layout_body s any) b q k → LayoutBodyIs b q k
-  unfolding layout_body
-  layout_body_is b q k h =
-      let w = stands_bind file (data_layout s) _ b q k h in
-      let v = stands_bind file (layout_chunks s any w.1) _ w.0 q k w.3 in
-      let i : Stands file (layout_chunks s any w.1) w.0 q v.1 = rw v.3.0 at v.2 in
-      record { layout = w.1; chunks = v.1; kept = sym v.3.1; at = chunks_at b w.0 q w.1 v.1 w.2 i }
 
   pub attribute_info_at : (b q : ℕ) (a : AttributeInfo) → Stands file (attribute_info s) b q a → AttributeInfoAt file s b q a
   attribute_info_at b q a h = (attribute_info_tied s).ties file b q a h
@@ -102,7 +73,7 @@ module _ (file : List ℕ) (s : State) (longest : ℕ) where
   value_row (datatype t h) e = absurd (omega arith)
   value_row (fill_value_old_lem h) e = absurd (omega arith)
   value_row (fill_value h) e = absurd (omega arith)
-  value_row (data_layout_lem l cs h) e = absurd (omega arith)
+  value_row (data_layout_lem p h) e = absurd (omega arith)
   value_row (group_info_lem g h) e = absurd (omega arith)
   value_row (filter_pipeline_lem h) e = absurd (omega arith)
   value_row (attribute_message_lem a h) e = h.value
@@ -140,12 +111,9 @@ module _ (file : List ℕ) (s : State) (longest : ℕ) where
         by_type type 21 p q k _ _ h (one (attribute_info s) messages.attribute_info 21 type p q k (λ m a i. attribute_info_lem a (attribute_info_at file s p m a i))) (λ e21 h.
         rw (← h.0, ← h.1) (not_read (e1, (e2, (e3, (e4, (e5, (e8, (e10, (e11, (e12, (e21, tt)))))))))))))))))))
 
-    layout_is : (type p q : ℕ) (k : Kept) → type ≡ 8 → Stands file (layout_body s any) p q k → BodyIs file s longest p q type k
-    layout_is type p q k e h = let y = layout_body_is file s p q k h in rw (e, y.kept) (data_layout_lem y.layout y.chunks y.at)
-
-    pub body_is : (type p q : ℕ) (k : Kept) → Stands file (body s any type) p q k → BodyIs file s longest p q type k
-    unfolding body attribute_body
+    pub body_is : (type p q : ℕ) (k : Kept) → Stands file (body s type) p q k → BodyIs file s longest p q type k
+    unfolding body layout_body attribute_body
     body_is type p q k h =
-        by_type type 8 p q k _ _ h (layout_is type p q k) (λ e8 h.
+        by_type type 8 p q k _ _ h (one (data_layout s) messages.data_layout 8 type p q k (λ m a i. data_layout_lem a (layout_at file s p m a i))) (λ e8 h.
         by_type type 12 p q k _ _ h (one (attribute s) messages.attribute 12 type p q k (λ m a i. attribute_message_lem a (record { name = name_tied file s p m a i; whole = attribute_tied file s longest enough p m a i; value = value_at file s p m a i }))) (λ e12 h.
         plain_is type p q k e8 e12 h))

@@ -9,7 +9,6 @@ use Rattle.std.proofs.Math.Dec.{eqb}
 use Rattle.std.proofs.lemmas.Bool.{eqb-false}
 use Rattle.format.specs.Format.{pick, Stands}
 use Rattle.format.specs.Standing.{stands_bind, bind_stands}
-use Rattle.format.specs.Rooms.{any}
 use Rattle.parser.specs.declared.State.{State}
 use Rattle.grammar.specs.Message.{Message, Held, message, continuation}
 use Rattle.ohdr_entry.specs.Continuations as info
@@ -28,23 +27,23 @@ module _ (file : List ℕ) (s : State) (header-flags : ℕ) where
     b : ℕ
     prefix_stands : Stands file (prefix header-flags) p b ours
     c : ℕ
-    held : ((ours.kind ≡ 16) × Stands file (continuation_held s ours b) b c v) ⊎ ((ours.kind ≡ 16 → ⊥) × Stands file (message_held any s ours b) b c v)
+    held : ((ours.kind ≡ 16) × Stands file (continuation_held s ours b) b c v) ⊎ ((ours.kind ≡ 16 → ⊥) × Stands file (message_held s ours b) b c v)
     room : c + (b + ours.size - c) ≤ length file
     close : c + (b + ours.size - c) ≡ q
 
-  parts_of : (p q : ℕ) (v : Held) → Stands file (entry s header-flags any) p q v → Parts p q v
+  parts_of : (p q : ℕ) (v : Held) → Stands file (entry s header-flags) p q v → Parts p q v
   unfolding entry closed
   parts_of p q v h = let w = stands_bind file (prefix header-flags) _ p q v h in go w.1 w.0 w.2 (eqb w.1.kind 16) refl w.3
     where
       go : (x : Prefix) (b : ℕ) → Stands file (prefix header-flags) p b x → (t : Bool) → eqb x.kind 16 ≡ t
-          → Stands file (pick t (closed continuation_held s x b) (closed (message_held any) s x b)) b q v → Parts p q v
+          → Stands file (pick t (closed continuation_held s x b) (closed message_held s x b)) b q v → Parts p q v
       go x b i true e h =
           let w = stands_bind file (continuation_held s x b) _ b q v h in
           let k : Stands file (continuation_held s x b) b w.0 v = rw w.3.1.1 at w.2 in
           record { ours = x; b = b; prefix_stands = i; c = w.0; held = inl (eqb-true x.kind 16 e, k); room = w.3.0; close = w.3.1.0 }
       go x b i false e h =
-          let w = stands_bind file (message_held any s x b) _ b q v h in
-          let k : Stands file (message_held any s x b) b w.0 v = rw w.3.1.1 at w.2 in
+          let w = stands_bind file (message_held s x b) _ b q v h in
+          let k : Stands file (message_held s x b) b w.0 v = rw w.3.1.1 at w.2 in
           record { ours = x; b = b; prefix_stands = i; c = w.0; held = inr (eqb-false x.kind 16 e, k); room = w.3.0; close = w.3.1.0 }
 
   message_stands : (p b size : ℕ) (x : MessagePrefix) → Stands file (message_prefix header-flags) p b x → size ≡ x.size_of_header_message_data → b + size ≤ length file
@@ -77,16 +76,16 @@ module _ (file : List ℕ) (s : State) (header-flags : ℕ) where
   neither_both : {P : Type 0} {m : Message} {o l : ℕ} → message m ≡ continuation o l → P
   neither_both e = let z : ◌≡◌ {A = ℕ} 0 1 = cc in absurd (omega arith)
 
-  pub message_entry : (p q : ℕ) (m : Message) → Stands file (entry s header-flags any) p q (message m) → MessageEntry file s header-flags p q m
+  pub message_entry : (p q : ℕ) (m : Message) → Stands file (entry s header-flags) p q (message m) → MessageEntry file s header-flags p q m
   unfolding message_held continuation_held
   message_entry p q m h = let w = parts_of p q (message m) h in go w w.held
     where
-      go : (w : Parts p q (message m)) → ((w.ours.kind ≡ 16) × Stands file (continuation_held s w.ours w.b) w.b w.c (message m)) ⊎ ((w.ours.kind ≡ 16 → ⊥) × Stands file (message_held any s w.ours w.b) w.b w.c (message m)) → MessageEntry file s header-flags p q m
+      go : (w : Parts p q (message m)) → ((w.ours.kind ≡ 16) × Stands file (continuation_held s w.ours w.b) w.b w.c (message m)) ⊎ ((w.ours.kind ≡ 16 → ⊥) × Stands file (message_held s w.ours w.b) w.b w.c (message m)) → MessageEntry file s header-flags p q m
       go w (inl x) = let u = stands_bind file (info.continuation s) _ w.b w.c (message m) x.1 in neither_both (sym u.3.1)
       go w (inr x) =
-          let u = stands_bind file (body s any w.ours.kind) _ w.b w.c (message m) x.1 in
+          let u = stands_bind file (body s w.ours.kind) _ w.b w.c (message m) x.1 in
           let n : Message = record { type = w.ours.kind; flags = w.ours.flags; size = w.ours.size; body = w.b; kept = u.1 } in
-          let f : Stands file (body s any w.ours.kind) w.b w.c u.1 = rw u.3.0 at u.2 in
+          let f : Stands file (body s w.ours.kind) w.b w.c u.1 = rw u.3.0 at u.2 in
           let r : MessageEntry file s header-flags p q n = record { fields_end = w.c; entry_is = entry_of p q w.b w.c w.ours w.prefix_stands w.room w.close; fields_stand = f; no_continuation = x.0 } in
           let e : n ≡ m = cc u.3.1 in
           rw (← e) r
@@ -94,12 +93,12 @@ module _ (file : List ℕ) (s : State) (header-flags : ℕ) where
   renamed : {p q : ℕ} (i k o l : ℕ) → i ≡ o → k ≡ l → ContinuationEntry file s header-flags p q i k → ContinuationEntry file s header-flags p q o l
   renamed i k o l e d x = rw (← e, ← d) x
 
-  pub continuation_entry : (p q o l : ℕ) → Stands file (entry s header-flags any) p q (continuation o l) → ContinuationEntry file s header-flags p q o l
+  pub continuation_entry : (p q o l : ℕ) → Stands file (entry s header-flags) p q (continuation o l) → ContinuationEntry file s header-flags p q o l
   unfolding message_held continuation_held
   continuation_entry p q o l h = let w = parts_of p q (continuation o l) h in go w w.held
     where
-      go : (w : Parts p q (continuation o l)) → ((w.ours.kind ≡ 16) × Stands file (continuation_held s w.ours w.b) w.b w.c (continuation o l)) ⊎ ((w.ours.kind ≡ 16 → ⊥) × Stands file (message_held any s w.ours w.b) w.b w.c (continuation o l)) → ContinuationEntry file s header-flags p q o l
-      go w (inr x) = let u = stands_bind file (body s any w.ours.kind) _ w.b w.c (continuation o l) x.1 in neither_both u.3.1
+      go : (w : Parts p q (continuation o l)) → ((w.ours.kind ≡ 16) × Stands file (continuation_held s w.ours w.b) w.b w.c (continuation o l)) ⊎ ((w.ours.kind ≡ 16 → ⊥) × Stands file (message_held s w.ours w.b) w.b w.c (continuation o l)) → ContinuationEntry file s header-flags p q o l
+      go w (inr x) = let u = stands_bind file (body s w.ours.kind) _ w.b w.c (continuation o l) x.1 in neither_both u.3.1
       go w (inl x) =
           let u = stands_bind file (info.continuation s) _ w.b w.c (continuation o l) x.1 in
           let f : Stands file (info.continuation s) w.b w.c u.1 = rw u.3.0 at u.2 in

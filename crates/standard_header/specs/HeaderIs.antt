@@ -8,9 +8,8 @@ use Rattle.grammar.specs.Grammar.{Item, item}
 use Rattle.ohdr_entry.specs.Entries.{body}
 use Rattle.standard.specs.Headers.{HeaderMessage, header_message, continuation_signature, ObjectHeaderPrefix, object_header_prefix}
 use Rattle.standard.specs.Chunks.{ChecksumStands, ObjectHeader}
-use Rattle.standard.specs.Pairs.{OneByOne}
-use Rattle.standard_header.specs.Same.{SameEntries, SameHeader, SameMessage, no_continuations}
-use Rattle.standard_header.specs.Is.{MessageEntry, ContinuationEntry, BodyIs, TextAt, NumberAt, SpaceAt, LinkInfoAt, TypeAt, ChunksAt, GroupInfoAt, AttributeInfoAt}
+use Rattle.standard_header.specs.Same.{SameEntries, SameHeader, OneByOne, SameMessage, no_continuations}
+use Rattle.standard_header.specs.Is.{MessageEntry, ContinuationEntry, BodyIs, TextAt, NumberAt, SpaceAt, LinkInfoAt, TypeAt, LayoutAt, GroupInfoAt, AttributeInfoAt}
 use Rattle.standard_header.specs.Differences.{BlockDiffers, ChunkDiffers, InBlocks}
 use Rattle.grammar.specs.Table.{messages_of, messages, rows_of}
 use Rattle.grammar.specs.Each.{All}
@@ -19,9 +18,6 @@ use Rattle.records.specs.Defaults.{default_data_space, default_link_info, defaul
 use Rattle.grammar.specs.Message as messages
 use Rattle.data_object_winners.specs.Wins.{Wins}
 use Rattle.row.specs.Clearing.{table}
-use Rattle.chunk_row.specs.declared.Chunk.{Chunk}
-use Rattle.chunk_row.specs.Chunks.{chunk_table}
-use Rattle.records.specs.declared.DataLayout.{DataLayout}
 use Rattle.parser.specs.States.{state_for}
 use Rattle.data_object.specs.declared.DataObject.{DataObject}
 use Rattle.data_object.specs.Decoded.{wins_in}
@@ -125,28 +121,24 @@ abbrev pub Given : {A : Type 0} → ℕ → (ℕ → ℕ → A → Type 0) → A
 Given n X a₀ a ms = LastOf n X a ms ⊎ (NoneOf n ms × (a ≡ a₀))
 
 module _ (file : List ℕ) (s : State) where
-  -- a layout and its chunks
-  abbrev pub ListedAt : ℕ → ℕ → DataLayout × List Chunk → Type 0
-  ListedAt b q x = ChunksAt file s b q x.0 x.1
-
-  -- the records that a header with these messages gives, and with that of the last layout its chunks
-  pub record WinsAre (longest : ℕ) (ms : List Message) (w : Wins) (chunks : List Chunk) : Type 0 where
+  -- the records that a header with these messages gives
+  pub record WinsAre (longest : ℕ) (ms : List Message) (w : Wins) : Type 0 where
     pub dataspace : Given 1 (SpaceAt file s) default_data_space w.ds ms
     pub link_info_lem : Given 2 (LinkInfoAt file s) default_link_info w.li ms
     pub datatype : Given 3 (TypeAt file longest) default_data_type w.dt ms
-    pub data_layout_lem : Given 8 ListedAt (default_data_layout, []) (w.layout, chunks) ms
+    pub data_layout_lem : Given 8 (LayoutAt file s) default_data_layout w.layout ms
     pub group_info_lem : Given 10 (GroupInfoAt file) default_group_info w.gi ms
     pub attribute_info_lem : Given 21 (AttributeInfoAt file s) default_attribute_info w.ai ms
 
--- Over a file, the widths of offsets and lengths, an end-of-file address, a header position, a table of n words, which ends as t, and a chunk table of
--- k words, which ends as c; and the longest name of a member that the specification's formats are asked for.
-module _ (file : List ℕ) (offsets lengths end at n k longest : ℕ) where
+-- Over a file, the widths of offsets and lengths, an end-of-file address, a header position and a table of so many words, which ends as t;
+-- and the longest name of a member that the specification's formats are asked for.
+module _ (file : List ℕ) (offsets lengths end at n longest : ℕ) where
   -- the state that the widths and the end-of-file address make
   abbrev state : State
   state = state_for offsets lengths end
 
   -- of an accepted header with the answer `Read after count`, and what is handed back of it
-  pub record Standard (after count : ℕ) (r : DataObject) (t c : List ℕ) : Type 0 where
+  pub record Standard (after count : ℕ) (r : DataObject) (t : List ℕ) : Type 0 where
     -- the entries of the header and of its blocks: `count` is their number, and there are as many rows as messages among them
     pub items : List Item
     pub entry_count : count ≡ length items
@@ -157,9 +149,5 @@ module _ (file : List ℕ) (offsets lengths end at n k longest : ℕ) where
     -- each row: type, flags, size and body position are fields of the header message that stands there, and name and part those of its body
     pub rows : All (RowIs file state longest header.prefix.flags) (messages_of items)
     pub table : t ≡ table n (rows_of items)
-    -- the chunk table: the chunks of the last layout, one a row, in the order of the specification's tree
-    pub chunks : List Chunk
-    pub chunk_count : r.chunks ≡ length chunks
-    pub chunk_list : c ≡ chunk_table k chunks
-    -- each record, and with that of the last layout these chunks
-    pub records : WinsAre file state longest (messages_of items) (wins_in r) chunks
+    -- each record
+    pub records : WinsAre file state longest (messages_of items) (wins_in r)

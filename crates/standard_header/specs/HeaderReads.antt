@@ -12,13 +12,11 @@ use Rattle.format.specs.Bits.{bit}
 use Rattle.format.specs.Bytes.{le}
 use Rattle.format.specs.Covers.{forward}
 use Rattle.format.specs.Format.{Format, done, skip, here, bind, pick, nothing, Stands}
-use Rattle.format.specs.Rooms.{any}
 use Rattle.format.specs.Standing.{stands_bind, stands_check, bind_stands}
 use Rattle.records.specs.declared.Attribute as ours
 use Rattle.records.specs.declared.Value.{Value}
 use Rattle.parser.specs.declared.State.{State}
 use Rattle.grammar.specs.Message.{Message, Held, Kept, message, continuation}
-use Rattle.chunk_tree.specs.Tree.{layout_chunks}
 use Rattle.grammar.specs.Message as messages
 use Rattle.grammar.specs.Grammar.{ochk, block_end, header_end, block_levels, Item, item, Run, Block, ends, goes, is_message, is_continuation, is_block}
 use Rattle.lookup3.specs.Lookup3.{sum_matches}
@@ -38,14 +36,11 @@ use Rattle.standard.specs.Fields.{Optional, absent, present, raw, optional, defi
 use Rattle.standard.specs.Tie.{Every, tied_done, tied_number, tied_check, tied_pick}
 use Rattle.standard.specs.Converse.{Reads, ReadAs, read_tied, Met, met, tied_checked}
 use Rattle.standard.specs.Headers.{ObjectHeaderPrefix, size_of_size_of_chunk0, object_header_prefix, MessagePrefix, message_prefix, HeaderMessage, header_message, ContinuationMessage, continuation_message, continuation_signature}
-use Rattle.standard.specs.AddressLaws.{same_defined}
-use Rattle.standard.specs.Storage.{DataLayout3, data_layout3}
-use Rattle.standard.specs.Trees.{KeyAndChild}
 use Rattle.standard.specs.Chunks.{ChecksumStands, Messages, gap, next, continued, block, ObjectHeader}
-use Rattle.standard_messages.specs.ReadMessages.{ReadLayout, ReadContinuation}
+use Rattle.standard_messages.specs.ReadMessages.{ReadContinuation}
 use Rattle.standard_messages.specs.Reads.{link_info_is_read, group_info_is_read, attribute_info_is_read, fill_value_old_is_read, fill_value_is_read}
 use Rattle.standard_messages.specs.FilterReads.{filter_pipeline_is_read}
-use Rattle.standard_messages.specs.LayoutReads.{layout_is_read, continuation_is_read}
+use Rattle.standard_messages.specs.LayoutReads.{data_layout_is_read, continuation_is_read}
 use Rattle.standard_datatype.specs.Reads.{datatype_is_read}
 use Rattle.standard_messages.specs.SpaceReads.{dataspace_is_read}
 use Rattle.standard_attribute.specs.Same.{SameName}
@@ -105,14 +100,14 @@ module _ (file : List ℕ) (s : State) where
   closed_stands F x b c m v h l r e = bind_stands file (F s x b) (λ h. here (λ c. skip (b + x.size - c) (done h))) b c m v v h (omega arith, (omega arith, refl))
 
   -- a body of ours within the data, and what is kept of it
-  record BodyRead {b e type : ℕ} {zs : List KeyAndChild} (r : ReadBody file s b e type zs) : Type 0 where
+  record BodyRead {b e type : ℕ} (r : ReadBody file s b e type) : Type 0 where
     c : ℕ
     k : Kept
-    stands : Stands file (body s any type) b c k
+    stands : Stands file (body s type) b c k
     within : c ≤ e
     related : BodyAs file s r k
 
-  kept : {A : Type 0} (F : Format A) (con : A → Kept) (n b c e : ℕ) (r : ReadBody file s b e n []) → body s any n ≡ bind F (λ a. done (con a)) → c ≤ e → (w : Reads file F b c) → BodyAs file s r (con w.0) → BodyRead r
+  kept : {A : Type 0} (F : Format A) (con : A → Kept) (n b c e : ℕ) (r : ReadBody file s b e n) → body s n ≡ bind F (λ a. done (con a)) → c ≤ e → (w : Reads file F b c) → BodyAs file s r (con w.0) → BodyRead r
   kept F con n b c e r d l w x =
       let h : Stands file (bind F (λ a. done (con a))) b c (con w.0) = bind_stands file F (λ a. done (con a)) b c c w.0 (con w.0) w.1 (refl, refl) in
       record { c = c; k = con w.0; stands = rw d h; within = l; related = x }
@@ -130,7 +125,7 @@ module _ (file : List ℕ) (s : State) where
       }
 
   -- an attribute that is accepted by its name alone, with these fields before it
-  named : (version n b m e : ℕ) (r : ReadBody file s b e 12 []) → Stands file attribute_fields b m (record { version = version; name_size = n }) → m + n + padding version n ≤ e → e ≤ length file
+  named : (version n b m e : ℕ) (r : ReadBody file s b e 12) → Stands file attribute_fields b m (record { version = version; name_size = n }) → m + n + padding version n ≤ e → e ≤ length file
       → ((q : ℕ) (v : Value) → Stands file (type_space_value version s) (m + n + padding version n) q v → q ≤ e)
       → ((a : ours.Attribute) → SameName file a.name (record { position = m; length = n }) → BodyAs file s r (messages.attribute a)) → BodyRead r
   unfolding body attribute_body
@@ -138,24 +133,8 @@ module _ (file : List ℕ) (s : State) where
       let y = attribute_accepted file s version n b m e h l i f in
       kept (attributes.attribute s) messages.attribute 12 b y.c e r refl y.within (y.value, y.stands) (g y.value y.name)
 
-  -- a layout with its chunks
-  layout_body_lem : (b c e : ℕ) (x : DataLayout3) (zs : List KeyAndChild) (h : Stands file (data_layout3 s.size_of_offsets s.size_of_lengths) b c x) (l : c ≤ e) (u : ReadLayout file s x.properties zs) → BodyRead (data_layout_lem c x zs h l u)
-  unfolding body layout_body
-  layout_body_lem b c e x zs h l u =
-      let y = layout_is_read file s b c x zs h u in
-      let d = y.fields.value in
-      let cs = y.chunks.chunks in
-      record {
-        c = c;
-        k = messages.data_layout d cs;
-        stands = bind_stands file (data_layout s) (λ l. bind (layout_chunks s any l) (λ chunks. done (messages.data_layout l chunks))) b c c d (messages.data_layout d cs) y.fields.stands
-            (bind_stands file (layout_chunks s any d) (λ chunks. done (messages.data_layout d chunks)) c c c cs (messages.data_layout d cs) y.chunks.stands (refl, refl));
-        within = l;
-        related = (d, cs, refl, y.fields.related, y.chunks.same);
-      }
-
-  body_read : {b e type : ℕ} {zs : List KeyAndChild} → b ≤ e → e ≤ length file → (r : ReadBody file s b e type zs) → BodyRead r
-  unfolding body plain_body attribute_body
+  body_read : {b e type : ℕ} → b ≤ e → e ≤ length file → (r : ReadBody file s b e type) → BodyRead r
+  unfolding body plain_body layout_body attribute_body
   body_read {b} {e} l r (dataspace c x h m u) = let y = dataspace_is_read file s b c x h u in kept (data_space s) messages.data_space 1 b c e (dataspace c x h m u) refl m (y.value, y.stands) (y.value, refl, y.related)
   body_read {b} {e} l r (link_info_lem c x h m) = let y = link_info_is_read file s b c x h in kept (link_info s) messages.link_info 2 b c e (link_info_lem c x h m) refl m (y.value, y.stands) (y.value, refl, y.related)
   body_read {b} {e} l r (datatype longest c x h m u) =
@@ -163,7 +142,7 @@ module _ (file : List ℕ) (s : State) where
       kept (data_type type_levels) messages.data_type 3 b c e (datatype longest c x h m u) refl m (y.value, y.stands) (y.value, refl, y.related)
   body_read {b} {e} l r (fill_value_old_lem c x h m) = kept fill_old (λ _. messages.nothing) 4 b c e (fill_value_old_lem c x h m) refl m (fill_value_old_is_read file b c x h) refl
   body_read {b} {e} l r (fill_value c x h m u) = kept fill (λ _. messages.nothing) 5 b c e (fill_value c x h m u) refl m (fill_value_is_read file b c x h u) refl
-  body_read {b} {e} l r (data_layout_lem c x zs h m u) = layout_body_lem b c e x zs h m u
+  body_read {b} {e} l r (data_layout_lem c x h m u) = let y = data_layout_is_read file s b c x h u in kept (data_layout s) messages.data_layout 8 b c e (data_layout_lem c x h m u) refl m (y.value, y.stands) (y.value, refl, y.related)
   body_read {b} {e} l r (group_info_lem c x h m) = let y = group_info_is_read file b c x h in kept group_info messages.group_info 10 b c e (group_info_lem c x h m) refl m (y.value, y.stands) (y.value, refl, y.related)
   body_read {b} {e} l r (attribute_info_lem c x h m) =
       let y = attribute_info_is_read file s b c x h in
@@ -179,27 +158,27 @@ module _ (file : List ℕ) (s : State) where
 module _ (file : List ℕ) (s : State) (header-flags : ℕ) where
   -- an entry whose prefix is read, and what it holds
   entry_stands : (p b m : ℕ) (y : Prefix) (v : Held) → Stands file (prefix header-flags) p b y
-      → Stands file (pick (eqb y.kind 16) (closed continuation_held s y b) (closed (message_held any) s y b)) b m v → Stands file (entry s header-flags any) p m v
+      → Stands file (pick (eqb y.kind 16) (closed continuation_held s y b) (closed message_held s y b)) b m v → Stands file (entry s header-flags) p m v
   unfolding entry
-  entry_stands p b m y v h i = bind_stands file (prefix header-flags) (λ x. here (λ b. pick (eqb x.kind 16) (closed continuation_held s x b) (closed (message_held any) s x b))) p b m y v h i
+  entry_stands p b m y v h i = bind_stands file (prefix header-flags) (λ x. here (λ b. pick (eqb x.kind 16) (closed continuation_held s x b) (closed message_held s x b))) p b m y v h i
 
   -- a message of the specification is an entry of ours
   record MessageRead (p m : ℕ) (x : HeaderMessage) (r : ReadMessage file s x) : Type 0 where
     ours : Message
-    stands : Stands file (entry s header-flags any) p m (message ours)
+    stands : Stands file (entry s header-flags) p m (message ours)
     related : MessageAs file s x r ours
 
   -- the same body, by other names of its place and type
-  moved : (type type' b b' c : ℕ) (k : Kept) → type ≡ type' → b ≡ b' → Stands file (body s any type) b c k → Stands file (body s any type') b' c k
+  moved : (type type' b b' c : ℕ) (k : Kept) → type ≡ type' → b ≡ b' → Stands file (body s type) b c k → Stands file (body s type') b' c k
   moved type type' b b' c k e d h = rw (← e, ← d) h
 
   message_from : (p b c m : ℕ) (x : HeaderMessage) (r : ReadMessage file s x) (y : Prefix) (k : Kept) → Stands file (prefix header-flags) p b y → SamePrefix y x.prefix → x.header_message_data.position ≡ b
-      → b + y.size ≤ length file → b + y.size ≡ m → Stands file (body s any y.kind) b c k → c ≤ b + y.size → (n : x.prefix.header_message_type ≡ 16 → ⊥) → BodyAs file s (r.body_read n) k → MessageRead p m x r
+      → b + y.size ≤ length file → b + y.size ≡ m → Stands file (body s y.kind) b c k → c ≤ b + y.size → (n : x.prefix.header_message_type ≡ 16 → ⊥) → BodyAs file s (r.body_read n) k → MessageRead p m x r
   unfolding message_held
   message_from p b c m x r y k h q e room u z l n w =
       let o : Message = record { type = y.kind; flags = y.flags; size = y.size; body = b; kept = k } in
-      let i : Stands file (message_held any s y b) b c (message o) = bind_stands file (body s any y.kind) _ b c c k (message o) z (refl, refl) in
-      let j = closed_stands file s (message_held any) y b c m (message o) i l room u in
+      let i : Stands file (message_held s y b) b c (message o) = bind_stands file (body s y.kind) _ b c c k (message o) z (refl, refl) in
+      let j = closed_stands file s message_held y b c m (message o) i l room u in
       record {
         ours = o;
         stands = entry_stands p b m y (message o) h (rw (ne_eqb y.kind 16 (λ e. n (sym q.header_message_type ∙ e))) j);
@@ -225,15 +204,18 @@ module _ (file : List ℕ) (s : State) (header-flags : ℕ) where
 
   -- a continuation of the specification is one of ours
   record ContinuationRead (p m offset : ℕ) (c : ContinuationMessage) (x : HeaderMessage) : Type 0 where
-    stands : Stands file (entry s header-flags any) p m (continuation offset c.length)
+    stands : Stands file (entry s header-flags) p m (continuation offset c.length)
     same : SameContinued file s offset c.length x
 
   continuation_from : (p b q m : ℕ) (y : Prefix) (v : Continuation) → Stands file (prefix header-flags) p b y → y.kind ≡ 16 → Stands file (info.continuation s) b q v → q ≤ b + y.size → b + y.size ≤ length file → b + y.size ≡ m
-      → Stands file (entry s header-flags any) p m (continuation v.offset v.length)
+      → Stands file (entry s header-flags) p m (continuation v.offset v.length)
   unfolding continuation_held
   continuation_from p b q m y v h k i l r u =
       let j : Stands file (continuation_held s y b) b q (continuation v.offset v.length) = bind_stands file (info.continuation s) _ b q q v (continuation v.offset v.length) i (refl, refl) in
       entry_stands p b m y (continuation v.offset v.length) h (rw (eq-eqb y.kind 16 k) (closed_stands file s continuation_held y b q m (continuation v.offset v.length) j l r u))
+
+  same_defined : {m n : ℕ} → defined m ≡ defined n → m ≡ n
+  same_defined e = cc
 
   continuation_entry_is_read : (p m q offset : ℕ) (x : HeaderMessage) (c : ContinuationMessage) → Stands file (header_message header-flags) p m x → x.prefix.header_message_type ≡ 16
       → Stands file (continuation_message s.size_of_offsets s.size_of_lengths) x.header_message_data.position q c → c.offset ≡ defined offset → 8 ≤ c.length → ReadMessage file s x
@@ -252,7 +234,7 @@ module _ (file : List ℕ) (s : State) (header-flags : ℕ) where
         same = record { header_message_type = n; upto = q; header_message_data = record { value = c; stands = i; related = record { offset = e; length = refl } } };
       }
     where
-      renamed : (a b o n : ℕ) → a ≡ o → b ≡ n → Stands file (entry s header-flags any) p m (continuation a b) → Stands file (entry s header-flags any) p m (continuation o n)
+      renamed : (a b o n : ℕ) → a ≡ o → b ≡ n → Stands file (entry s header-flags) p m (continuation a b) → Stands file (entry s header-flags) p m (continuation o n)
       renamed a b o n e f h = rw (← e, ← f) h
 
 -- a block's signature

@@ -3,7 +3,6 @@
 use Rattle.std.specs.Prelude.{ℕ, ◌≤◌, ◌+◌, ◌-◌, ◌<◌, ◌≡◌, ◌⊎◌, List, [], ◌∷◌, length}
 use Rattle.format.specs.Bytes.{AreBytes}
 use Rattle.format.specs.Format.{Stands}
-use Rattle.format.specs.Rooms.{any}
 use Rattle.records.specs.declared.OptionPart.{OptionPart}
 use Rattle.records.specs.declared.OptionPart.TheVariants as parts
 use Rattle.records.specs.declared.Part.{Part}
@@ -18,7 +17,6 @@ use Rattle.records.specs.declared.Number.{Number}
 use Rattle.records.specs.declared.Value.{Value}
 use Rattle.records.specs.Numbers.{number_case, number_bits, value_text, value_case, value_bits}
 use Rattle.row.specs.declared.Row.{Row}
-use Rattle.chunk_row.specs.declared.Chunk.{Chunk}
 use Rattle.parser.specs.declared.State.{State}
 use Rattle.grammar.specs.Message.{Kept, Message}
 use Rattle.grammar.specs.Message as messages
@@ -36,7 +34,6 @@ use Rattle.standard.specs.Attributes.{attribute_message}
 use Rattle.standard.specs.Infos.{link_info_message, group_info_message, attribute_info_message}
 use Rattle.standard.specs.Storage.{fill_value_old, fill_value_message, data_layout3, filter_pipeline_message}
 use Rattle.standard_messages.specs.Same.{SameDataspace, SameLinkInfo, SameGroupInfo, SameAttributeInfo, SameLayout, ValidFill, ValidPipeline, SameContinuation}
-use Rattle.standard_messages.specs.SameTrees.{SameChunks}
 use Rattle.standard_messages.specs.Differences.{FillDiffers, PipelineDiffers}
 use Rattle.standard_datatype.specs.Differences.{TypeDiffers}
 use Rattle.standard_datatype.specs.Same.{SameType, HeaderStood}
@@ -60,11 +57,6 @@ module _ (file : List ℕ) (s : State) where
 
   abbrev pub LayoutAt : ℕ → ℕ → DataLayout → Type 0
   LayoutAt b q l = Stood (SameLayout s) (data_layout3 s.size_of_offsets s.size_of_lengths) file b q l
-
-  -- a layout, and the chunks that are read of it, which are those of the specification's tree; one that is not chunked has none
-  pub record ChunksAt (b q : ℕ) (l : DataLayout) (cs : List Chunk) : Type 0 where
-    pub fields : LayoutAt b q l
-    pub chunks : SameChunks file s cs fields.value.properties
 
   abbrev pub AttributeInfoAt : ℕ → ℕ → AttributeInfo → Type 0
   AttributeInfoAt b q a = Stood SameAttributeInfo (attribute_info_message s.size_of_offsets) file b q a
@@ -128,7 +120,7 @@ module _ (file : List ℕ) (s : State) (longest : ℕ) where
     datatype : {q : ℕ} (t : DataType) → TypeAt file longest b q t → BodyIs b q 3 (messages.data_type t)
     fill_value_old_lem : {q : ℕ} → FillValueOldAt file b q → BodyIs b q 4 messages.nothing
     fill_value : {q : ℕ} → FillValueAt file b q → BodyIs b q 5 messages.nothing
-    data_layout_lem : {q : ℕ} (l : DataLayout) (cs : List Chunk) → ChunksAt file s b q l cs → BodyIs b q 8 (messages.data_layout l cs)
+    data_layout_lem : {q : ℕ} (l : DataLayout) → LayoutAt file s b q l → BodyIs b q 8 (messages.data_layout l)
     group_info_lem : {q : ℕ} (g : GroupInfo) → GroupInfoAt file b q g → BodyIs b q 10 (messages.group_info g)
     filter_pipeline_lem : {q : ℕ} → FilterPipelineAt file b q → BodyIs b q 11 messages.nothing
     attribute_message_lem : {q : ℕ} (a : Attribute) → AttributeAt b q a → BodyIs b q 12 (messages.attribute a)
@@ -153,7 +145,7 @@ module _ (file : List ℕ) (s : State) (header-flags : ℕ) where
   pub record MessageEntry (p q : ℕ) (m : Message) : Type 0 where
     pub fields_end : ℕ
     pub entry_is : EntryIs p q m.body fields_end m.type m.size m.flags
-    pub fields_stand : Stands file (body s any m.type) m.body fields_end m.kept
+    pub fields_stand : Stands file (body s m.type) m.body fields_end m.kept
     pub no_continuation : m.type ≡ 16 → ⊥
 
   -- a continuation and its entry

@@ -1,6 +1,6 @@
 -- A header of the specification with a message of each kind, of which the conditions hold, and so it is accepted. Assumes nothing.
 use Rattle.std.specs.Prelude.{ℕ, ◌+◌, ◌≡◌, refl, List, [], ◌∷◌, ◌++◌}
-use Rattle.std.proofs.Common.{sym, inl, inr, arith}
+use Rattle.std.proofs.Common.{inl, inr, arith}
 use Rattle.format.specs.Bytes.{le}
 use Rattle.format.specs.Format.{bind, times, read}
 use Rattle.format.specs.Laws.{sound, none}
@@ -9,14 +9,13 @@ use Rattle.lookup3.specs.Lookup3.{plus, minus, rotate, mix_line, mix, final_line
 use Rattle.ohdr_datatype.specs.DataTypes.{known_class, known_type, data_type_header, type_layer, data_type}
 use Rattle.ohdr_attribute.specs.Attributes.{type_space_value}
 use Rattle.standard.specs.Fields.{absent, optional, address, optional_address, raw, many}
-use Rattle.standard.specs.AddressLaws.{no_undefined}
 use Rattle.standard.specs.Versions.{by_version, marked}
 use Rattle.standard.specs.Headers.{HeaderMessage, object_header_prefix, message_prefix, header_message}
 use Rattle.standard.specs.Chunks.{next, gap, ObjectHeader}
 use Rattle.standard.specs.Dataspaces.{stored_sizes, dataspace1, dataspace2, dataspace_message, product}
 use Rattle.standard.specs.Datatypes.{datatype_header, fixed_point_lem, properties, datatype_of, datatype_message}
 use Rattle.standard.specs.Infos.{link_info_message, group_info_message, attribute_info_message}
-use Rattle.standard.specs.Storage.{fill_value_old, size_and_fill_value_lem, fill_fields12, fill_value12, fill_value3, fill_value_message, compact_storage, contiguous_storage, chunked_storage, layout_properties, data_layout3}
+use Rattle.standard.specs.Storage.{fill_value_old, size_and_fill_value_lem, fill_fields12, fill_value12, fill_value3, fill_value_message, compact_storage, contiguous_storage, layout_properties, data_layout3}
 use Rattle.standard.specs.Storage.{filter_fields1, filter_description1, pipeline_fields1, filter_pipeline1, filter_fields2, filter_description2, pipeline_fields2, filter_pipeline2, filter_pipeline_message}
 use Rattle.standard.specs.Attributes.{sizes1, sizes3, sized, described, attribute1, attribute3, attribute_message}
 use Rattle.standard.specs.Examples.{plain_prefix, plain_message}
@@ -27,8 +26,8 @@ use Rattle.standard_header.specs.Among.{none_among}
 
 abbrev kinds : List ℕ
 kinds =
-    -- `OHDR`, version 2, flags 1, and 372 bytes of messages
-    (0x4F ∷ 0x48 ∷ 0x44 ∷ 0x52 ∷ 2 ∷ 1 ∷ 0x74 ∷ 1 ∷ [])
+    -- `OHDR`, version 2, flags 1, and 355 bytes of messages
+    (0x4F ∷ 0x48 ∷ 0x44 ∷ 0x52 ∷ 2 ∷ 1 ∷ 0x63 ∷ 1 ∷ [])
     -- a dataspace of version 2: one size of 3, its maximum unlimited
     ++ (1 ∷ 8 ∷ 0 ∷ 0 ∷ 2 ∷ 1 ∷ 1 ∷ 1 ∷ 3 ∷ 0 ∷ 0xFF ∷ 0xFF ∷ [])
     -- a dataspace of version 1: sizes 4 and 5
@@ -65,10 +64,8 @@ kinds =
     ++ (0x15 ∷ 10 ∷ 0 ∷ 0 ∷ 0 ∷ 3 ∷ 9 ∷ 0 ∷ 10 ∷ 0 ∷ 11 ∷ 0 ∷ 12 ∷ 0 ∷ [])
     -- a message of a type that is not read
     ++ (0x16 ∷ 2 ∷ 0 ∷ 0 ∷ 1 ∷ 2 ∷ [])
-    -- a layout: chunks, of which none is stored
-    ++ (8 ∷ 13 ∷ 0 ∷ 0 ∷ 3 ∷ 2 ∷ 2 ∷ 0xFF ∷ 0xFF ∷ 10 ∷ 0 ∷ 0 ∷ 0 ∷ 1 ∷ 0 ∷ 0 ∷ 0 ∷ [])
     -- the checksum
-    ++ (0x5F ∷ 0x16 ∷ 0x39 ∷ 0xEF ∷ [])
+    ++ (9 ∷ 0xFD ∷ 0x55 ∷ 0x8A ∷ [])
 
 abbrev kind_messages : List HeaderMessage
 kind_messages =
@@ -89,14 +86,13 @@ kind_messages =
     ∷ plain_message 12 282 24
     ∷ plain_message 12 310 33
     ∷ plain_message 21 347 10
-    ∷ plain_message 22 361 2
-    ∷ plain_message 8 367 13 ∷ []
+    ∷ plain_message 22 361 2 ∷ []
 
 unfoldable its_header : ObjectHeader kinds 2 2 0 kind_messages
 unfolding read bind le optional raw object_header_prefix message_prefix header_message plus minus rotate mix_line mix final_line final_mix add_block blocks sum_of
 its_header =
     record {
-      prefix = plain_prefix 1 absent 372;
+      prefix = plain_prefix 1 absent 355;
       start = 8;
       prefix_stands = sound kinds object_header_prefix 0 8 _ refl;
       chunk =
@@ -118,18 +114,17 @@ its_header =
           next (sound kinds (header_message 1) 306 343 (plain_message 12 310 33) refl) (λ e. omega arith) (
           next (sound kinds (header_message 1) 343 357 (plain_message 21 347 10) refl) (λ e. omega arith) (
           next (sound kinds (header_message 1) 357 363 (plain_message 22 361 2) refl) (λ e. omega arith) (
-          next (sound kinds (header_message 1) 363 380 (plain_message 8 367 13) refl) (λ e. omega arith) (
-          gap {p = 380} {e = 380} (omega arith) (omega arith))))))))))))))))))));
+          gap {p = 363} {e = 363} (omega arith) (omega arith)))))))))))))))))));
       checksum_stands = (omega arith, refl);
     }
 
 -- widths of 2 bytes
 abbrev state : State
-state = record { size_of_lengths = 2; size_of_offsets = 2; end_of_file_address = 384 }
+state = record { size_of_lengths = 2; size_of_offsets = 2; end_of_file_address = 367 }
 
 -- each message by itself
 abbrev Body : ℕ → ℕ → ℕ → Type 0
-Body type position size = ReadBody kinds state position (position + size) type []
+Body type position size = ReadBody kinds state position (position + size) type
 
 unlimited : Body 1 12 8
 unfolding read bind le many by_version marked stored_sizes dataspace1 dataspace2 dataspace_message
@@ -164,12 +159,12 @@ unfolding read bind le raw by_version marked size_and_fill_value_lem fill_fields
 fill_3 = fill_value 107 _ (sound kinds fill_value_message 100 107 _ refl) (omega arith) tt
 
 bytes : Body 8 111 6
-unfolding read bind le raw many address marked compact_storage contiguous_storage chunked_storage layout_properties data_layout3
-bytes = data_layout_lem 117 _ [] (sound kinds (data_layout3 2 2) 111 117 _ refl) (omega arith) (record { small = omega arith; inside = λ a e l u. let i : 5 ≡ a = cc in omega arith }, refl)
+unfolding read bind le raw address marked compact_storage contiguous_storage layout_properties data_layout3
+bytes = data_layout_lem 117 _ (sound kinds (data_layout3 2 2) 111 117 _ refl) (omega arith) (record { small = omega arith; inside = λ a e l u. let i : 5 ≡ a = cc in omega arith })
 
 compact_bytes : Body 8 121 6
-unfolding read bind le raw many address marked compact_storage contiguous_storage chunked_storage layout_properties data_layout3
-compact_bytes = data_layout_lem 127 _ [] (sound kinds (data_layout3 2 2) 121 127 _ refl) (omega arith) refl
+unfolding read bind le raw address marked compact_storage contiguous_storage layout_properties data_layout3
+compact_bytes = data_layout_lem 127 _ (sound kinds (data_layout3 2 2) 121 127 _ refl) (omega arith) tt
 
 group : Body 10 131 10
 unfolding read bind le optional group_info_message
@@ -227,15 +222,11 @@ attributes = attribute_info_lem 357 _ (sound kinds (attribute_info_message 2) 34
 other : Body 22 361 2
 other = not_read {type = 22} (none_among 22 read_types refl)
 
-no_chunks : Body 8 367 13
-unfolding read bind le raw many address marked compact_storage contiguous_storage chunked_storage layout_properties data_layout3
-no_chunks = data_layout_lem 380 _ [] (sound kinds (data_layout3 2 2) 367 380 _ refl) (omega arith) (record { dimensionality = omega arith; tree = λ a e l u. no_undefined (sym e); no_tree = λ f. refl })
+message : (type position size : ℕ) → (type ≡ 16 → ⊥) → Body type position size → ReadMessage kinds state (plain_message type position size)
+message type position size n b = record { flags = refl; body_read = λ _. b; block_read = λ q c o t h e. absurd (n t) }
 
-abbrev message : (type position size : ℕ) → (type ≡ 16 → ⊥) → Body type position size → ReadMessage kinds state (plain_message type position size)
-message type position size n b = record { flags = refl; chunks = []; body_read = λ _. b; no_chunks = λ _. refl; block_read = λ q c o t h e. absurd (n t) }
-
--- a table of 19 rows, and no chunk table
-pub a_header_of_each_kind : ReadObjectHeader kinds 2 2 384 0 228 0 kind_messages
+-- a table of 18 rows
+pub a_header_of_each_kind : ReadObjectHeader kinds 2 2 367 0 216 kind_messages
 unfolding its_header levels
 a_header_of_each_kind =
     record {
@@ -281,10 +272,7 @@ a_header_of_each_kind =
                                           message 21 347 10 (λ e. omega arith) attributes,
                                           (
                                             message 22 361 2 (λ e. omega arith) other,
-                                            (
-                                              message 8 367 13 (λ e. omega arith) no_chunks,
-                                              tt,
-                                            ),
+                                            tt,
                                           ),
                                         ),
                                       ),
@@ -304,8 +292,6 @@ a_header_of_each_kind =
           ),
         );
         few = omega arith;
-        few_chunks = omega arith;
       };
       room = omega arith;
-      chunk_room = omega arith;
     }

@@ -19,5 +19,4 @@ pub mod Accepts
 pub mod Among
 pub mod AcceptSamples
 pub mod KindSamples
-pub mod ChunkSamples
 pub mod RowNumbers

@@ -12,12 +12,11 @@ use Rattle.lookup3.specs.Lookup3.{sum_matches}
 use Rattle.lookup3.specs.Laws.{matches_is}
 use Rattle.data_object_header.specs.declared.HeaderFields.{HeaderFields}
 use Rattle.data_object_header.specs.Headers.{HeaderReading}
-use Rattle.standard.specs.Pairs.{as_many}
 use Rattle.standard.specs.Headers.{ObjectHeaderPrefix, object_header_prefix, HeaderMessage}
 use Rattle.standard.specs.Chunks.{ChecksumStands}
 use Rattle.standard_header.specs.Same.{SameHeader, SameMessage, no_continuations, SameHeld}
 use Rattle.standard_header.specs.Prefixes.{header_tied}
-use Rattle.standard_header.specs.SameLaws.{same_messages}
+use Rattle.standard_header.specs.SameLaws.{as_many, same_messages}
 use Rattle.standard_header.specs.Bodies.{value_row}
 use Rattle.standard_header.specs.Differences.{ChunkDiffers, InBlocks}
 use Rattle.standard_header.specs.HeaderIs.{EntriesAre, none, a_message, a_continuation, FirstChunkIs, WholeIs, HeaderIs, RowIs}

@@ -38,21 +38,21 @@ module _ (P : Row → Type 0) where
       go f g true e = f (ltb-true i n e)
       go f g false e = let d : i ≡ n = omega (arith, ltb-false i n e) in rw d g
 
-module _ (file : List ℕ) (bytes : AreBytes file) (offsets lengths end at n k : ℕ) where
+module _ (file : List ℕ) (bytes : AreBytes file) (offsets lengths end at n : ℕ) where
   each_number : (longest flags : ℕ) (ms : List Message) → All (RowIs file (state_for offsets lengths end) longest flags) ms → EachRow (NumberInRow file lengths) (map row_of ms)
   each_number longest flags [] h = tt
-  each_number longest flags (m ∷ ms) h = (λ e l levels upto x i v. (h.0.number e bytes l levels upto x i v).1, each_number longest flags ms h.1)
+  each_number longest flags (m ∷ ms) h = (λ e l k upto x i v. (h.0.number e bytes l k upto x i v).1, each_number longest flags ms h.1)
 
-  accepted_numbers : {next count : ℕ} {r : DataObject} {t c : List ℕ} → Accepted file offsets lengths end at n k next count r t c → (i : ℕ) → i < r.rows → NumberInRow file lengths (row_at t i)
+  accepted_numbers : {next count : ℕ} {r : DataObject} {t : List ℕ} → Accepted file offsets lengths end at n next count r t → (i : ℕ) → i < r.rows → NumberInRow file lengths (row_at t i)
   accepted_numbers {next} {count} {r} {t} a =
       let h = reading_is file (state_for offsets lengths end) 4095 (omega arith) a.readable.checkable.reading in
       each_row (NumberInRow file lengths) t r.rows
-      (subst (EachRow (NumberInRow file lengths)) (sym (accepted_rows file offsets lengths end at n k a)) (each_number 4095 h.prefix.flags (messages_of a.items) (each_message file (state_for offsets lengths end) 4095 h.entries)))
+      (subst (EachRow (NumberInRow file lengths)) (sym (accepted_rows file offsets lengths end at n a)) (each_number 4095 h.prefix.flags (messages_of a.items) (each_message file (state_for offsets lengths end) 4095 h.entries)))
 
   -- in the words of the call's contract, of every row that is filled; a header that is refused fills none
-  pub decoded_numbers : (r : DataObject) (t c : List ℕ) → Decoded file offsets lengths end at n k r t c → (i : ℕ) → i < r.rows → NumberInRow file lengths (row_at t i)
-  decoded_numbers r t c d = go r.answer d.meant
+  pub decoded_numbers : (r : DataObject) (t : List ℕ) → Decoded file offsets lengths end at n r t → (i : ℕ) → i < r.rows → NumberInRow file lengths (row_at t i)
+  decoded_numbers r t d = go r.answer d.meant
     where
-      go : (x : Answer) → Meant file offsets lengths end at n k x r t c → (i : ℕ) → i < r.rows → NumberInRow file lengths (row_at t i)
+      go : (x : Answer) → Meant file offsets lengths end at n x r t → (i : ℕ) → i < r.rows → NumberInRow file lengths (row_at t i)
       go (answers.Read next count) a i l = accepted_numbers a i l
       go (answers.Refused y) z i l = absurd (omega (arith, z.rows))

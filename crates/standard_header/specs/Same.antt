@@ -1,12 +1,11 @@
 -- What is read of a header, of an entry and of a continuation, beside the specification's fields; and the entries of a reading beside its header messages,
 -- one by one. Entries are those of docs/DIFFERENCES.md, part one. Assumes nothing: these are definitions.
-use Rattle.std.specs.Prelude.{ℕ, ◌≡◌, List, [], ◌∷◌, eqb}
+use Rattle.std.specs.Prelude.{ℕ, ◌≡◌, List, [], ◌∷◌, length, eqb}
 use Rattle.format.specs.Format.{pick}
 use Rattle.parser.specs.declared.State.{State}
 use Rattle.grammar.specs.Message.{Message, Held, message, continuation}
 use Rattle.grammar.specs.Grammar.{Item}
 use Rattle.standard.specs.Tie.{Stood}
-use Rattle.standard.specs.Pairs.{OneByOne}
 use Rattle.standard.specs.Headers.{HeaderMessage, continuation_message, ObjectHeaderPrefix, MessagePrefix}
 use Rattle.standard_messages.specs.Same.{SameContinuation}
 use Rattle.ohdr_entry.specs.declared.Prefix.{Prefix}
@@ -22,6 +21,13 @@ pub record SamePrefix (ours : Prefix) (theirs : MessagePrefix) : Type 0 where
   pub header_message_type : ours.kind ≡ theirs.header_message_type
   pub size_of_header_message_data : ours.size ≡ theirs.size_of_header_message_data
   pub header_message_flags : ours.flags ≡ theirs.header_message_flags
+
+-- as many of both, and R holds of each two in the same place
+abbrev pub OneByOne : {A B : Type 0} → (A → B → Type 0) → List A → List B → Type 0
+OneByOne R [] [] = Unit {0}
+OneByOne R [] (y ∷ ys) = ⊥
+OneByOne R (x ∷ xs) [] = ⊥
+OneByOne R (x ∷ xs) (y ∷ ys) = R x y × OneByOne R xs ys
 
 -- a message of a reading and a header message, which is no continuation
 pub record SameMessage (m : Message) (x : HeaderMessage) : Type 0 where

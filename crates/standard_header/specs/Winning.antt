@@ -1,44 +1,42 @@
 -- The records that a header gives are the specification's messages, each the last of its type. Assumes nothing.
 use Rattle.std.specs.Prelude.{ℕ, ◌≤◌, ◌≡◌, ◌⊎◌, Bool, true, false, List, [], ◌∷◌, eqb}
-use Rattle.std.proofs.Math.Path.{refl, subst}
-use Rattle.std.proofs.Common.{sym, ◌∙◌, inl, inr, arith, eqb-true}
+use Rattle.std.proofs.Math.Path.{refl}
+use Rattle.std.proofs.Common.{sym, ◌∙◌, inl, inr, eqb-true}
 use Rattle.std.proofs.lemmas.Bool.{eqb-false}
 use Rattle.format.specs.Format.{Format, done, bind, Stands, read}
 use Rattle.format.specs.Laws.{complete}
-use Rattle.format.specs.Rooms.{any}
 use Rattle.format.specs.Standing.{stands_bind}
-use Rattle.records.specs.declared.DataLayout.{DataLayout}
-use Rattle.chunk_row.specs.declared.Chunk.{Chunk}
-use Rattle.records.specs.Defaults.{default_data_space, default_link_info, default_group_info, default_attribute_info, default_data_type}
+use Rattle.records.specs.Defaults.{default_data_space, default_link_info, default_group_info, default_attribute_info, default_data_type, default_data_layout}
 use Rattle.parser.specs.declared.State.{State}
 use Rattle.grammar.specs.Message.{Kept, Message}
 use Rattle.grammar.specs.Message as messages
 use Rattle.grammar.specs.Grammar.{Item}
-use Rattle.grammar.specs.Table.{messages_of, list_over, list_after, last_list}
+use Rattle.grammar.specs.Table.{messages_of}
 use Rattle.grammar.specs.Each.{All}
 use Rattle.ohdr_info.specs.Info.{link_info, group_info, attribute_info}
+use Rattle.ohdr_layout.specs.DataLayouts.{data_layout}
 use Rattle.ohdr_datatype.specs.DataTypes.{data_type, type_levels}
 use Rattle.ohdr_dataspace.specs.DataSpaces.{data_space}
-use Rattle.ohdr_entry.specs.Entries.{body, plain_body}
+use Rattle.ohdr_entry.specs.Entries.{body, plain_body, layout_body}
 use Rattle.ohdr_entry.specs.Entered.{Bodied}
 use Rattle.data_object_header.specs.Headers.{HeaderReading}
 use Rattle.data_object_winners.specs.Wins.{Wins, win, wins_after, wins_of, defaults}
 use Rattle.data_object_winners.specs.Winners.{value_or}
 use Rattle.data_object_winners.specs.WinnerLaws.{type_of, typed, Won, all_bodied, space_won, type_won, link_won, group_won, info_won, layout_won}
-use Rattle.standard_header.specs.Is.{SpaceAt, LinkInfoAt, TypeAt, GroupInfoAt, AttributeInfoAt}
-use Rattle.standard_header.specs.Bodies.{space_at, link_info_at, type_at, layout_body_is, group_info_at, attribute_info_at}
-use Rattle.standard_header.specs.HeaderIs.{NoneOf, last, before, Given, ListedAt, WinsAre}
+use Rattle.standard_header.specs.Is.{SpaceAt, LinkInfoAt, TypeAt, LayoutAt, GroupInfoAt, AttributeInfoAt}
+use Rattle.standard_header.specs.Bodies.{space_at, link_info_at, type_at, layout_at, group_info_at, attribute_info_at}
+use Rattle.standard_header.specs.HeaderIs.{NoneOf, last, before, Given, WinsAre}
 
 module _ (file : List ℕ) (s : State) where
   -- a record of a message that stands
-  value_is : {A : Type 0} (F : Format A) (con : A → Kept) (n : ℕ) (X : ℕ → ℕ → A → Type 0) (a₀ : A) → body s any n ≡ bind F (λ a. done (con a)) → ((p q : ℕ) (a : A) → Stands file F p q a → X p q a)
+  value_is : {A : Type 0} (F : Format A) (con : A → Kept) (n : ℕ) (X : ℕ → ℕ → A → Type 0) (a₀ : A) → body s n ≡ bind F (λ a. done (con a)) → ((p q : ℕ) (a : A) → Stands file F p q a → X p q a)
       → (m : Message) → Bodied file s m → m.type ≡ n → (q : ℕ) × X m.body q (value_or a₀ (read file F m.body))
   value_is F con n X a₀ d t m b e =
       let h : Stands file (bind F (λ a. done (con a))) m.body b.upto m.kept = rw (sym d, sym e) b.stands in
       let w = stands_bind file F (λ a. done (con a)) m.body b.upto m.kept h in
       (w.0, rw (complete file F m.body w.0 w.1 w.2) (t m.body w.0 w.1 w.2))
 
-  given_after : {A : Type 0} (n : ℕ) (F : Format A) (con : A → Kept) (X : ℕ → ℕ → A → Type 0) (a₀ : A) (f : Wins → A) → Won file s n F a₀ f → body s any n ≡ bind F (λ a. done (con a)) → ((p q : ℕ) (a : A) → Stands file F p q a → X p q a)
+  given_after : {A : Type 0} (n : ℕ) (F : Format A) (con : A → Kept) (X : ℕ → ℕ → A → Type 0) (a₀ : A) (f : Wins → A) → Won file s n F a₀ f → body s n ≡ bind F (λ a. done (con a)) → ((p q : ℕ) (a : A) → Stands file F p q a → X p q a)
       → (ms : List Message) → All (Bodied file s) ms → (w : Wins) → Given n X (f w) (f (wins_after w ms)) ms
   given_after n F con X a₀ f v d t [] b w = inr (tt, refl)
   given_after n F con X a₀ f v d t (m ∷ ms) b w = more (given_after n F con X a₀ f v d t ms b.1 (win m.kept w))
@@ -64,70 +62,17 @@ module _ (file : List ℕ) (s : State) where
       more (inl l) = inl (before l)
       more (inr z) = by_type (eqb m.type n) refl z.0 z.1
 
-  -- what is no layout leaves the list as it is
-  list_apart : (k : Kept) → (type_of k ≡ 8 → ⊥) → (cs : List Chunk) → list_over cs k ≡ cs
-  list_apart messages.nothing n cs = refl
-  list_apart (messages.data_space d) n cs = refl
-  list_apart (messages.link_info l) n cs = refl
-  list_apart (messages.data_type t) n cs = refl
-  list_apart (messages.data_layout l ds) n cs = absurd (n refl)
-  list_apart (messages.group_info g) n cs = refl
-  list_apart (messages.attribute a) n cs = refl
-  list_apart (messages.attribute_info a) n cs = refl
-
-  pairs : {l l' : DataLayout} {cs cs' : List Chunk} → l ≡ l' → cs ≡ cs' → ◌≡◌ {A = DataLayout × List Chunk} (l, cs) (l', cs')
-  pairs e d = rw (e, d) refl
-
-  -- a layout puts itself and its chunks in place
-  layout_kept : (m : Message) (b : Bodied file s m) → m.type ≡ 8 → (w : Wins) (cs : List Chunk) → ListedAt file s m.body b.upto ((win m.kept w).layout, list_over cs m.kept)
-  unfolding body
-  layout_kept m b e w cs =
-      let h : Stands file (body s any 8) m.body b.upto m.kept = subst (λ (type : ℕ). Stands file (body s any type) m.body b.upto m.kept) e b.stands in
-      let y = layout_body_is file s m.body b.upto m.kept h in
-      rw y.kept y.at
-
-  -- the last layout and its chunks
-  layouts_after : (ms : List Message) → All (Bodied file s) ms → (w : Wins) (cs : List Chunk) → Given 8 (ListedAt file s) (w.layout, cs) ((wins_after w ms).layout, list_after cs ms) ms
-  layouts_after [] b w cs = inr (tt, refl)
-  layouts_after (m ∷ ms) b w cs = more (layouts_after ms b.1 (win m.kept w) (list_over cs m.kept))
-    where
-      after : DataLayout × List Chunk
-      after = ((wins_after (win m.kept w) ms).layout, list_after (list_over cs m.kept) ms)
-
-      other : (m.type ≡ 8 → ⊥) → type_of m.kept ≡ 8 → ⊥
-      other k e = pass (typed file s m.type m.body b.0.upto m.kept b.0.stands)
-        where
-          pass : (type_of m.kept ≡ 0) ⊎ (type_of m.kept ≡ m.type) → ⊥
-          pass (inl z) = omega (arith, e, z)
-          pass (inr y) = k (sym y ∙ e)
-
-      by_type : (q : Bool) → eqb m.type 8 ≡ q → NoneOf 8 ms → after ≡ ((win m.kept w).layout, list_over cs m.kept) → Given 8 (ListedAt file s) (w.layout, cs) after (m ∷ ms)
-      by_type true q none e =
-          let i = eqb-true m.type 8 q in
-          let y = layout_kept m b.0 i w cs in
-          inl (last {m = m} i none b.0.upto (subst (λ (x : DataLayout × List Chunk). ListedAt file s m.body b.0.upto x) (sym e) y))
-      by_type false q none e =
-          let i = eqb-false m.type 8 q in
-          inr ((i, none), e ∙ unchanged (other i))
-        where
-          unchanged : (type_of m.kept ≡ 8 → ⊥) → ◌≡◌ {A = DataLayout × List Chunk} ((win m.kept w).layout, list_over cs m.kept) (w.layout, cs)
-          unchanged n = pairs ((layout_won file s).apart m.kept n w) (list_apart m.kept n cs)
-
-      more : Given 8 (ListedAt file s) ((win m.kept w).layout, list_over cs m.kept) after ms → Given 8 (ListedAt file s) (w.layout, cs) after (m ∷ ms)
-      more (inl l) = inl (before l)
-      more (inr z) = by_type (eqb m.type 8) refl z.0 z.1
-
-  pub wins_are : (longest : ℕ) → 4095 ≤ longest → (ms : List Message) → All (Bodied file s) ms → WinsAre file s longest ms (wins_of ms) (last_list ms)
-  unfolding body plain_body
+  pub wins_are : (longest : ℕ) → 4095 ≤ longest → (ms : List Message) → All (Bodied file s) ms → WinsAre file s longest ms (wins_of ms)
+  unfolding body plain_body layout_body
   wins_are longest enough ms b =
       record {
         dataspace = given_after 1 (data_space s) messages.data_space (SpaceAt file s) default_data_space (λ w. w.ds) (space_won file s) refl (space_at file s) ms b defaults;
         link_info_lem = given_after 2 (link_info s) messages.link_info (LinkInfoAt file s) default_link_info (λ w. w.li) (link_won file s) refl (link_info_at file s) ms b defaults;
         datatype = given_after 3 (data_type type_levels) messages.data_type (TypeAt file longest) default_data_type (λ w. w.dt) (type_won file s) refl (type_at file longest enough) ms b defaults;
-        data_layout_lem = layouts_after ms b defaults [];
+        data_layout_lem = given_after 8 (data_layout s) messages.data_layout (LayoutAt file s) default_data_layout (λ w. w.layout) (layout_won file s) refl (layout_at file s) ms b defaults;
         group_info_lem = given_after 10 group_info messages.group_info (GroupInfoAt file) default_group_info (λ w. w.gi) (group_won file s) refl (group_info_at file) ms b defaults;
         attribute_info_lem = given_after 21 (attribute_info s) messages.attribute_info (AttributeInfoAt file s) default_attribute_info (λ w. w.ai) (info_won file s) refl (attribute_info_at file s) ms b defaults;
       }
 
-  pub reading_wins : (longest : ℕ) → 4095 ≤ longest → {at after : ℕ} {xs : List Item} → HeaderReading file s at after xs → WinsAre file s longest (messages_of xs) (wins_of (messages_of xs)) (last_list (messages_of xs))
+  pub reading_wins : (longest : ℕ) → 4095 ≤ longest → {at after : ℕ} {xs : List Item} → HeaderReading file s at after xs → WinsAre file s longest (messages_of xs) (wins_of (messages_of xs))
   reading_wins longest enough {xs = xs} h = wins_are longest enough (messages_of xs) (all_bodied file s h)

@@ -1,15 +1,12 @@
 -- An address is the specification's: undefined where that is, and the same number elsewhere. Assumes nothing.
-use Rattle.std.specs.Prelude.{ℕ, ◌+◌, ◌<◌, ◌≡◌, refl, Bool, true, false, List, get_or, eqb, ltb}
-use Rattle.std.proofs.Common.{ap, arith, eq-eqb, eqb-true, lt-ltb, ltb-true}
-use Rattle.format.specs.Bools.{and_left, and_right}
+use Rattle.std.specs.Prelude.{ℕ, ◌+◌, ◌<◌, ◌≡◌, refl, Bool, true, false, List, get_or, eqb}
+use Rattle.std.proofs.Common.{ap, arith, eq-eqb, eqb-true}
 use Rattle.format.specs.Bytes.{AreBytes, le, all_ones}
 use Rattle.format.specs.BytesLaws.{bytes_all_ones, all_ones_bytes}
 use Rattle.format.specs.Format.{bind, pick, done}
 use Rattle.records.specs.declared.Address.TheVariants as addresses
 use Rattle.records.specs.declared.OptionAddress.TheVariants as option_addresses
 use Rattle.helpers.specs.Addresses.{address, address_of, defined, defined_address}
-use Rattle.parser.specs.declared.State.{State}
-use Rattle.parser.specs.States.{address_valid}
 use Rattle.ohdr_info.specs.Info.{cond_address}
 use Rattle.standard.specs.Fields as standard
 use Rattle.standard.specs.Tie.{Tied, tied_done, tied_number, tied_refuse}
@@ -51,24 +48,3 @@ pub tied_cond_address : (test : Bool) (w : ℕ) → Tied (SameAddress test) (con
 unfolding bind cond_address address standard.address standard.optional_address
 tied_cond_address true w = tied_number (λ n. tied_done (record { zero = address_of_lem w n; some = ap option_addresses.Some (address_of_lem w n) }))
 tied_cond_address false w = tied_done (record { zero = refl; some = refl })
-
--- the specification's address of which ours is a number
-pub number_in : (a : standard.Address) (n : ℕ) → address_in a ≡ addresses.Number n → a ≡ standard.defined n
-number_in standard.undefined n e = let z : ◌≡◌ {A = ℕ} 0 1 = cc in absurd (omega arith)
-number_in (standard.defined m) n e = let d : m ≡ n = cc in ap standard.defined d
-
--- the number of an address that is not undefined
-pub is_defined : (w n m : ℕ) → standard.address_of w n ≡ standard.defined m → (eqb n (all_ones w) ≡ false) × (n ≡ m)
-is_defined w n m = go (eqb n (all_ones w)) refl
-  where
-    go : (t : Bool) → eqb n (all_ones w) ≡ t → pick t standard.undefined (standard.defined n) ≡ standard.defined m → (eqb n (all_ones w) ≡ false) × (n ≡ m)
-    go true e d = let z : ◌≡◌ {A = ℕ} 0 1 = cc in absurd (omega arith)
-    go false e d = (e, cc)
-
--- an address between 0 and end-of-file, and no other, is a valid one
-pub in_file : (s : State) (a : ℕ) → 0 < a → a < s.end_of_file_address → address_valid s a ≡ true
-in_file s a l m = rw (lt-ltb 0 a l, lt-ltb a s.end_of_file_address m)
-
-pub valid_in_file : (s : State) (a : ℕ) → address_valid s a ≡ true → (0 < a) × (a < s.end_of_file_address)
-valid_in_file s a v =
-    (ltb-true 0 a (and_left (ltb 0 a) (ltb a s.end_of_file_address) v), ltb-true a s.end_of_file_address (and_right (ltb 0 a) (ltb a s.end_of_file_address) v))

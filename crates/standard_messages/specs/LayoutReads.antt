@@ -1,18 +1,17 @@
 -- A layout and a continuation of the specification are read, where the conditions of `ReadMessages` hold of them. Assumes nothing.
-use Rattle.std.specs.Prelude.{ℕ, zero, suc, ◌+◌, ◌-◌, ◌*◌, ◌≤◌, ◌<◌, ◌≡◌, Bool, ◌&&◌, List, eqb}
+use Rattle.std.specs.Prelude.{ℕ, ◌+◌, ◌≤◌, ◌<◌, ◌≡◌, Bool, ◌&&◌, List, eqb, leb, ltb}
 use Rattle.std.proofs.Math.Path.{refl, ap}
 use Rattle.std.proofs.Common.{sym, ◌∙◌, arith}
 use Rattle.std.proofs.Math.Bool.{true, false}
 use Rattle.std.proofs.Math.ListN.{length}
-use Rattle.std.proofs.Math.Dec.{leb}
-use borrow.Author.Tests.{lt-ltb, le-leb, leb-true}
-use Rattle.format.specs.Bytes.{le}
-use Rattle.format.specs.Format.{done, refuse, number, bytes, there, bind, pick, nothing, Stands}
+use borrow.Author.Tests.{lt-ltb, le-leb, ltb-true}
+use Rattle.format.specs.Bools.{and_left, and_right}
+use Rattle.format.specs.Bytes.{le, all_ones}
+use Rattle.format.specs.Format.{done, refuse, bytes, there, bind, pick, nothing, Stands}
 use Rattle.format.specs.Standing.{stands_bind, stands_check}
 use Rattle.records.specs.declared.Address.{Address}
 use Rattle.records.specs.declared.Address.TheVariants as addresses
 use Rattle.records.specs.declared.OptionAddress.TheVariants as option_addresses
-use Rattle.records.specs.declared.LayoutData.TheVariants as layouts
 use Rattle.records.specs.declared.DataLayout.{DataLayout}
 use Rattle.records.specs.Defaults.{empty_part}
 use Rattle.helpers.specs.Addresses.{address, address_of, defined_address}
@@ -22,35 +21,34 @@ use Rattle.ohdr_layout.specs.DataLayouts as ours
 use Rattle.ohdr_layout.specs.DataLayouts.{contiguous_part, data_from, raw_data_lem, data_layout}
 use Rattle.ohdr_entry.specs.Continuations.{continuation}
 use Rattle.standard.specs.Fields as standard
-use Rattle.standard.specs.Fields.{raw, many}
-use Rattle.standard.specs.Trees.{KeyAndChild}
-use Rattle.standard.specs.Tie.{tied_number}
-use Rattle.standard.specs.Converse.{Reads, ReadAs, read_tied, Met, met}
+use Rattle.standard.specs.Fields.{defined}
+use Rattle.standard.specs.Tie.{tied_done, tied_number}
+use Rattle.standard.specs.Converse.{Reads, ReadAs, read_tied, Met, met, tied_from_raw}
 use Rattle.standard.specs.Versions.{marked}
 use Rattle.standard.specs.Headers.{ContinuationMessage, continuation_message}
-use Rattle.standard.specs.Storage.{compact_storage, ContiguousStorage, contiguous_storage, ChunkedStorage, chunked_storage, LayoutProperties, compact, contiguous, chunked, layout_properties, DataLayout3, data_layout3}
-use Rattle.standard_messages.specs.Addresses.{address_of_lem, number_in, is_defined, in_file, valid_in_file}
-use Rattle.standard_messages.specs.Same.{SameContinuation, SameLayout}
+use Rattle.standard.specs.Storage.{compact_storage, ContiguousStorage, contiguous_storage, LayoutProperties, compact, contiguous, layout_properties, DataLayout3, data_layout3}
+use Rattle.standard_messages.specs.Addresses.{address_of_lem}
+use Rattle.standard_messages.specs.Same.{address_in, SameContinuation, SameLayout}
 use Rattle.standard_messages.specs.Infos.{continuation_tied}
 use Rattle.standard_messages.specs.Layouts.{data_layout_tied}
 use Rattle.standard_messages.specs.ReadMessages.{ReadContiguous, ReadLayout, ReadContinuation}
-use Rattle.standard_messages.specs.TreeReads.{ChunksRead, chunks_are_read}
+
+-- the specification's address of which ours is a number
+number_in : (a : standard.Address) (n : ℕ) → address_in a ≡ addresses.Number n → a ≡ defined n
+number_in standard.undefined n e = let z : ◌≡◌ {A = ℕ} 0 1 = cc in absurd (omega arith)
+number_in (standard.defined m) n e = let d : m ≡ n = cc in ap defined d
+
+-- the number of an address that is not undefined
+is_defined : (w n m : ℕ) → standard.address_of w n ≡ defined m → (eqb n (all_ones w) ≡ false) × (n ≡ m)
+is_defined w n m = go (eqb n (all_ones w)) refl
+  where
+    go : (t : Bool) → eqb n (all_ones w) ≡ t → pick t standard.undefined (defined n) ≡ defined m → (eqb n (all_ones w) ≡ false) × (n ≡ m)
+    go true e d = let z : ◌≡◌ {A = ℕ} 0 1 = cc in absurd (omega arith)
+    go false e d = (e, cc)
 
 compact_met : Met ours.compact compact_storage
-unfolding bind raw ours.compact compact_storage
-compact_met =
-    tied_number (λ size.
-    record { ties = λ s p q a h. record { value = record { address = option_addresses.None; «data» = layouts.Part (contiguous_part p size) }; stands = (h.0, (h.1.0, refl)); related = tt } })
-
--- so many numbers of 4 bytes end so far behind
-many_end : (s : List ℕ) (n p q : ℕ) (xs : List ℕ) → Stands s (many n (number 4 done)) p q xs → q ≡ p + 4 * n
-unfolding many
-many_end s zero p q xs h = omega (arith, h.0)
-many_end s (suc n) p q xs h =
-    let v = stands_bind s (number 4 done) _ p q xs h in
-    let u = stands_bind s (many n (number 4 done)) _ v.0 q xs v.3 in
-    let i = many_end s n v.0 u.0 u.1 u.2 in
-    omega (arith, i, v.2.1.0, u.3.0)
+unfolding ours.compact compact_storage
+compact_met = tied_number (λ size. tied_from_raw (λ x. tied_done tt))
 
 module _ (s : List ℕ) (st : State) where
   abbrev w : ℕ
@@ -61,17 +59,18 @@ module _ (s : List ℕ) (st : State) where
 
   -- the data at an address: there are some only where they lie in the bytes that are given
   raw_read : (size : ℕ) (a : Address) (p q : ℕ) → p ≡ q → ((n : ℕ) → a ≡ addresses.Number n → 0 < n → n < st.end_of_file_address → n + size ≤ length s)
-      → Reads s (bind (raw_data_lem st size a) (λ raw_data. done {A = DataLayout} (record { address = option_addresses.Some a; «data» = layouts.Part raw_data }))) p q
+      → Reads s (bind (raw_data_lem st size a) (λ raw_data. done {A = DataLayout} (record { address = option_addresses.Some a; «data» = raw_data }))) p q
   unfolding raw_data_lem data_from bind
-  raw_read size addresses.Undefined p q e f = (record { address = option_addresses.Some addresses.Undefined; «data» = layouts.Part empty_part }, (e, refl))
+  raw_read size addresses.Undefined p q e f = (record { address = option_addresses.Some addresses.Undefined; «data» = empty_part }, (e, refl))
   raw_read size (addresses.Number n) p q e f = go (address_valid st n) refl
     where
       go : (t : Bool) → address_valid st n ≡ t
-          → Reads s (bind (pick t (there n (bytes size nothing) (λ _. done (contiguous_part n size))) (done empty_part)) (λ raw_data. done {A = DataLayout} (record { address = option_addresses.Some (addresses.Number n); «data» = layouts.Part raw_data }))) p q
+          → Reads s (bind (pick t (there n (bytes size nothing) (λ _. done (contiguous_part n size))) (done empty_part)) (λ raw_data. done {A = DataLayout} (record { address = option_addresses.Some (addresses.Number n); «data» = raw_data }))) p q
       go true d =
-          let b = valid_in_file st n d in
-          (record { address = option_addresses.Some (addresses.Number n); «data» = layouts.Part (contiguous_part n size) }, (n + size, tt, (f n refl b.0 b.1, (refl, refl)), (e, refl)))
-      go false d = (record { address = option_addresses.Some (addresses.Number n); «data» = layouts.Part empty_part }, (e, refl))
+          let a = ltb-true 0 n (and_left (ltb 0 n) (ltb n st.end_of_file_address) d) in
+          let b = ltb-true n st.end_of_file_address (and_right (ltb 0 n) (ltb n st.end_of_file_address) d) in
+          (record { address = option_addresses.Some (addresses.Number n); «data» = contiguous_part n size }, (n + size, tt, (f n refl a b, (refl, refl)), (e, refl)))
+      go false d = (record { address = option_addresses.Some (addresses.Number n); «data» = empty_part }, (e, refl))
 
   contiguous_read : (p q : ℕ) (x : ContiguousStorage) → Stands s (contiguous_storage w l) p q x → ReadContiguous s st x → Reads s (ours.contiguous st) p q
   unfolding bind address standard.address ours.contiguous contiguous_storage
@@ -83,74 +82,43 @@ module _ (s : List ℕ) (st : State) where
       let y = raw_read size (address_of w (le s p w)) (p + w + l) q h.1.1.0 (λ n d a b. rw es (r.inside n (sym ea ∙ number_in (standard.address_of w (le s p w)) n (sym (address_of_lem w (le s p w)) ∙ d)) a b)) in
       (y.0, (h.0, (h.1.0, rw (lt-ltb size 268435456 (rw es r.small)) y.1)))
 
-  -- the sizes are passed over
-  chunked_stands : (p q d : ℕ) → le s p 1 ≡ d → p + 1 ≤ length s → 1 ≤ d → d ≤ 5 → p + 1 + w ≤ length s → p + 1 + w + 4 * d ≤ length s → p + 1 + w + 4 * d ≡ q → Reads s (ours.chunked st) p q
-  unfolding bind address ours.chunked
-  chunked_stands p q d e a l m b c f =
-      let t : (leb 1 (le s p 1) && leb (le s p 1) 5) ≡ true = rw (e, le-leb 1 d l, le-leb d 5 m) refl in
-      (record { address = option_addresses.Some (address_of w (le s (p + 1) w)); «data» = layouts.Chunks (le s p 1) }, (a, rw t (b, (omega (arith, e, c), (omega (arith, e, f), refl)))))
-
-  chunked_read : (p q : ℕ) (x : ChunkedStorage) → Stands s (chunked_storage w) p q x → x.dimensionality ≤ 5 → Reads s (ours.chunked st) p q
-  unfolding bind standard.address chunked_storage
-  chunked_read p q x h r =
-      let d = le s p 1 in
-      let c = stands_check s (leb 1 d) 0 _ (p + 1) q x h.1 in
-      let b = stands_bind s (many (d - 1) (number 4 done)) _ (p + 1 + w) q x c.1.1 in
-      let l = leb-true 1 d c.0 in
-      let k = many_end s (d - 1) (p + 1 + w) b.0 b.1 b.2 in
-      let e : d ≡ x.dimensionality = ap (λ (y : ChunkedStorage). y.dimensionality) b.3.1.1 in
-      chunked_stands p q d refl h.0 l (omega (arith, e, r)) c.1.0 (omega (arith, k, b.3.0, l)) (omega (arith, k, b.3.1.0, l))
-
-  properties_read : (class p q : ℕ) (x : LayoutProperties) (zs : List KeyAndChild) → Stands s (layout_properties w l class) p q x → ReadLayout s st x zs
-      → Reads s (pick (eqb class 0) ours.compact (pick (eqb class 1) (ours.contiguous st) (pick (eqb class 2) (ours.chunked st) (refuse 13)))) p q
+  properties_read : (class p q : ℕ) (x : LayoutProperties) → Stands s (layout_properties w l class) p q x → ReadLayout s st x
+      → Reads s (pick (eqb class 0) ours.compact (pick (eqb class 1) (ours.contiguous st) (pick (eqb class 2) (refuse 14) (refuse 13)))) p q
   unfolding layout_properties marked
-  properties_read class p q x zs h r = go (eqb class 0) (eqb class 1) (eqb class 2) h
+  properties_read class p q x h r = go (eqb class 0) (eqb class 1) h
     where
-      go : (a b c : Bool) → Stands s (pick a (bind compact_storage (λ y. done (compact y))) (pick b (bind (contiguous_storage w l) (λ y. done (contiguous y))) (pick c (bind (chunked_storage w) (λ y. done (chunked y))) (refuse 0)))) p q x
-          → Reads s (pick a ours.compact (pick b (ours.contiguous st) (pick c (ours.chunked st) (refuse 13)))) p q
-      go true b c i =
-          let v = stands_bind s compact_storage (λ y. done (compact y)) p q x i in
-          met compact_met s p q v.1 (rw v.3.0 at v.2)
-      go false true c i =
-          let v = stands_bind s (contiguous_storage w l) (λ y. done (contiguous y)) p q x i in
-          let r' = rw (← v.3.1) at r in
-          contiguous_read p q v.1 (rw v.3.0 at v.2) r'.0
-      go false false true i =
-          let v = stands_bind s (chunked_storage w) (λ y. done (chunked y)) p q x i in
-          let r' = rw (← v.3.1) at r in
-          chunked_read p q v.1 (rw v.3.0 at v.2) r'.dimensionality
-      go false false false i = absurd i
+      go : (a b : Bool) → Stands s (pick a (bind compact_storage (λ y. done (compact y))) (pick b (bind (contiguous_storage w l) (λ y. done (contiguous y))) (refuse 0))) p q x
+          → Reads s (pick a ours.compact (pick b (ours.contiguous st) (pick (eqb class 2) (refuse 14) (refuse 13)))) p q
+      go true b i =
+          let c = stands_bind s compact_storage (λ y. done (compact y)) p q x i in
+          met compact_met s p q c.1 (rw c.3.0 at c.2)
+      go false true i =
+          let c = stands_bind s (contiguous_storage w l) (λ y. done (contiguous y)) p q x i in
+          contiguous_read p q c.1 (rw c.3.0 at c.2) (rw (← c.3.1) at r)
+      go false false i = absurd i
 
   layout_stands : (p q : ℕ) → p + 1 ≤ length s → eqb (le s p 1) 3 ≡ true → p + 1 + 1 ≤ length s
-      → Reads s (pick (eqb (le s (p + 1) 1) 0) ours.compact (pick (eqb (le s (p + 1) 1) 1) (ours.contiguous st) (pick (eqb (le s (p + 1) 1) 2) (ours.chunked st) (refuse 13)))) (p + 1 + 1) q
+      → Reads s (pick (eqb (le s (p + 1) 1) 0) ours.compact (pick (eqb (le s (p + 1) 1) 1) (ours.contiguous st) (pick (eqb (le s (p + 1) 1) 2) (refuse 14) (refuse 13)))) (p + 1 + 1) q
       → Reads s (data_layout st) p q
   unfolding data_layout
   layout_stands p q a e b y = (y.0, (a, rw e (b, y.1)))
 
-  layout_read : (p q : ℕ) (x : DataLayout3) (zs : List KeyAndChild) → Stands s (data_layout3 w l) p q x → ReadLayout s st x.properties zs → Reads s (data_layout st) p q
+  layout_read : (p q : ℕ) (x : DataLayout3) → Stands s (data_layout3 w l) p q x → ReadLayout s st x.properties → Reads s (data_layout st) p q
   unfolding data_layout3
-  layout_read p q x zs h r =
+  layout_read p q x h r =
       let c = stands_check s (eqb (le s p 1) 3) 0 _ (p + 1) q x h.1 in
       let b = stands_bind s (layout_properties w l (le s (p + 1) 1)) _ (p + 1 + 1) q x c.1.1 in
       let r' = rw (← b.3.1) at r in
-      let y = properties_read (le s (p + 1) 1) (p + 1 + 1) q b.1 zs (rw b.3.0 at b.2) r' in
+      let y = properties_read (le s (p + 1) 1) (p + 1 + 1) q b.1 (rw b.3.0 at b.2) r' in
       layout_stands p q h.0 c.0 c.1.0 y
 
-  data_layout_is_read : (p q : ℕ) (x : DataLayout3) (zs : List KeyAndChild) → Stands s (data_layout3 w l) p q x → ReadLayout s st x.properties zs → ReadAs (SameLayout st) (data_layout st) s p q x
-  data_layout_is_read p q x zs h r = read_tied (data_layout_tied st) s p q x h q (layout_read p q x zs h r)
-
-  -- the layout, and its chunks
-  pub record LayoutRead (p q : ℕ) (x : DataLayout3) (zs : List KeyAndChild) : Type 0 where
-    pub fields : ReadAs (SameLayout st) (data_layout st) s p q x
-    pub chunks : ChunksRead s st fields.value q zs
-
-  pub layout_is_read : (p q : ℕ) (x : DataLayout3) (zs : List KeyAndChild) → Stands s (data_layout3 w l) p q x → ReadLayout s st x.properties zs → LayoutRead p q x zs
-  layout_is_read p q x zs h r = let y = data_layout_is_read p q x zs h r in record { fields = y; chunks = chunks_are_read s st y.value x.properties zs y.related r q }
+  pub data_layout_is_read : (p q : ℕ) (x : DataLayout3) → Stands s (data_layout3 w l) p q x → ReadLayout s st x.properties → ReadAs (SameLayout st) (data_layout st) s p q x
+  data_layout_is_read p q x h r = read_tied (data_layout_tied st) s p q x h q (layout_read p q x h r)
 
   -- the continuation
   in_range : (offset length : ℕ) → 0 < offset → 8 ≤ length → offset + length ≤ st.end_of_file_address
       → (address_valid st offset ≡ true) × ((leb 8 length && leb (offset + length) st.end_of_file_address) ≡ true)
-  in_range o n a b c = (in_file st o a (omega arith), rw (le-leb 8 n b, le-leb (o + n) st.end_of_file_address c))
+  in_range o n a b c = (rw (lt-ltb 0 o a, lt-ltb o st.end_of_file_address (omega arith)), rw (le-leb 8 n b, le-leb (o + n) st.end_of_file_address c))
 
   continuation_read : (p q offset : ℕ) (x : ContinuationMessage) → Stands s (continuation_message w l) p q x → ReadContinuation st offset x → Reads s (continuation st) p q
   unfolding bind address standard.address defined_address continuation continuation_message

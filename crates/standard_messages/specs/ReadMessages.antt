@@ -1,18 +1,15 @@
 -- When a message of the specification is read. Each condition names the entry of docs/DIFFERENCES.md, part one, that it excludes; what is in the
 -- specification's format, or is a rule of its text, has none. Link info, group info, attribute info and the old fill value have no condition.
 -- Assumes nothing: these are definitions.
-use Rattle.std.specs.Prelude.{ℕ, ◌+◌, ◌-◌, ◌*◌, ◌%◌, ◌^◌, ◌≤◌, ◌<◌, ◌≡◌, ◌⊎◌, List, [], length}
+use Rattle.std.specs.Prelude.{ℕ, ◌+◌, ◌-◌, ◌*◌, ◌%◌, ◌^◌, ◌≤◌, ◌<◌, ◌≡◌, ◌⊎◌, List, length}
 use Rattle.parser.specs.declared.State.{State}
 use Rattle.standard.specs.Fields.{defined}
 use Rattle.standard.specs.Headers.{ContinuationMessage}
 use Rattle.standard.specs.Tie.{Every}
 use Rattle.standard.specs.Dataspaces.{Stored, not_stored, stored, Dataspace}
 use Rattle.standard.specs.Dataspaces as dataspaces
-use Rattle.standard.specs.Storage.{FillValue12, FillValue, versions_1_and_2, version_3, ContiguousStorage, ChunkedStorage, LayoutProperties, compact, contiguous, chunked}
-use Rattle.standard.specs.Storage.{FilterDescription1, FilterPipeline1, FilterDescription2, FilterPipeline2, FilterPipeline, version_1, version_2}
-use Rattle.standard.specs.Trees.{KeyAndChild}
+use Rattle.standard.specs.Storage.{FillValue12, FillValue, versions_1_and_2, version_3, ContiguousStorage, LayoutProperties, compact, contiguous, FilterDescription1, FilterPipeline1, FilterDescription2, FilterPipeline2, FilterPipeline, version_1, version_2}
 use Rattle.standard_messages.specs.Differences.{ElementsDiffer}
-use Rattle.standard_messages.specs.ReadTrees.{ReadTree}
 
 -- fields of a dataspace of either version
 abbrev pub dimensionality_of : Dataspace → ℕ
@@ -69,18 +66,10 @@ pub record ReadContiguous (file : List ℕ) (s : State) (x : ContiguousStorage) 
   pub small : x.size < 268435456
   pub inside : (a : ℕ) → x.address ≡ defined a → 0 < a → a < s.end_of_file_address → a + x.size ≤ length file
 
--- chunked data, and the chunks that they lead to: 89: a dimensionality of at most 5; where the address lies between 0 and end-of-file the tree stands
--- there and is read (ReadTrees), and elsewhere no chunk is
-pub record ReadChunked (file : List ℕ) (s : State) (x : ChunkedStorage) (chunks : List KeyAndChild) : Type 0 where
-  pub dimensionality : x.dimensionality ≤ 5
-  pub tree : (a : ℕ) → x.address ≡ defined a → 0 < a → a < s.end_of_file_address → ReadTree file s (x.dimensionality - 1) a chunks
-  pub no_tree : ((a : ℕ) → x.address ≡ defined a → 0 < a → a < s.end_of_file_address → ⊥) → chunks ≡ []
-
--- a layout, and its chunks; versions other than 3 (40) are not in the specification's format as it is written here
-abbrev pub ReadLayout : List ℕ → State → LayoutProperties → List KeyAndChild → Type 0
-ReadLayout file s (compact x) chunks = chunks ≡ []
-ReadLayout file s (contiguous x) chunks = ReadContiguous file s x × (chunks ≡ [])
-ReadLayout file s (chunked x) chunks = ReadChunked file s x chunks
+-- versions other than 3 (40), and chunked data, are not in the specification's format as it is written here
+abbrev pub ReadLayout : List ℕ → State → LayoutProperties → Type 0
+ReadLayout file s (compact x) = Unit {0}
+ReadLayout file s (contiguous x) = ReadContiguous file s x
 
 -- the continuation
 pub record ReadContinuation (s : State) (offset : ℕ) (x : ContinuationMessage) : Type 0 where

@@ -1,6 +1,6 @@
 -- What the record of a message that is read has of the specification's message. Entries are those of docs/DIFFERENCES.md, part one.
 -- Assumes nothing: these are definitions.
-use Rattle.std.specs.Prelude.{ℕ, ◌%◌, ◌≤◌, ◌<◌, ◌≡◌, ◌⊎◌, Bool, true, false, List, length, take}
+use Rattle.std.specs.Prelude.{ℕ, ◌%◌, ◌<◌, ◌≡◌, ◌⊎◌, Bool, true, false, List, length, take}
 use Rattle.records.specs.Defaults.{no_dimensions, empty_part}
 use Rattle.records.specs.Elements.{count_of}
 use Rattle.records.specs.declared.OptionU8.TheVariants as options8
@@ -17,7 +17,6 @@ use Rattle.records.specs.declared.DataSpace.{DataSpace}
 use Rattle.records.specs.declared.LinkInfo.{LinkInfo}
 use Rattle.records.specs.declared.GroupInfo.{GroupInfo}
 use Rattle.records.specs.declared.AttributeInfo.{AttributeInfo}
-use Rattle.records.specs.declared.LayoutData.TheVariants as layouts
 use Rattle.records.specs.declared.DataLayout.{DataLayout}
 use Rattle.parser.specs.declared.State.{State}
 use Rattle.parser.specs.States.{address_valid}
@@ -30,7 +29,7 @@ use Rattle.standard.specs.Headers.{ContinuationMessage}
 use Rattle.standard.specs.Dataspaces.{Stored, not_stored, stored, Dataspace1, Dataspace2, Dataspace, version_1, version_2, elements}
 use Rattle.standard.specs.Infos.{LinkInfoMessage, GroupInfoMessage, AttributeInfoMessage}
 use Rattle.standard.specs.Storage as storages
-use Rattle.standard.specs.Storage.{FillValue, versions_1_and_2, version_3, ValidFillValue12, CompactStorage, ContiguousStorage, ChunkedStorage, LayoutProperties, DataLayout3}
+use Rattle.standard.specs.Storage.{FillValue, versions_1_and_2, version_3, ValidFillValue12, ContiguousStorage, LayoutProperties, DataLayout3}
 use Rattle.standard.specs.Storage.{FilterDescription1, FilterPipeline1, ValidFilterPipeline1, ValidFilterPipeline2, FilterPipeline}
 use Rattle.standard_messages.specs.Differences.{ElementsDiffer}
 
@@ -144,28 +143,15 @@ pub record SameContinuation (ours : Continuation) (theirs : ContinuationMessage)
 -- past the end-of-file address (44), none are handed out.
 pub record SameContiguous (s : State) (ours : DataLayout) (theirs : ContiguousStorage) : Type 0 where
   pub address : ours.address ≡ option_addresses.Some (address_in theirs.address)
-  pub raw_data : (a : ℕ) → theirs.address ≡ standard.defined a → address_valid s a ≡ true → 0 < theirs.size → ours.«data» ≡ layouts.Part (record { position = a; length = theirs.size })
-  pub no_size : theirs.size ≡ 0 → ours.«data» ≡ layouts.Part empty_part
-  pub undefined : theirs.address ≡ standard.undefined → ours.«data» ≡ layouts.Part empty_part
-  pub no_data : (a : ℕ) → theirs.address ≡ standard.defined a → address_valid s a ≡ false → ours.«data» ≡ layouts.Part empty_part
+  pub raw_data : (a : ℕ) → theirs.address ≡ standard.defined a → address_valid s a ≡ true → 0 < theirs.size → ours.«data» ≡ record { position = a; length = theirs.size }
+  pub no_size : theirs.size ≡ 0 → ours.«data» ≡ empty_part
+  pub undefined : theirs.address ≡ standard.undefined → ours.«data» ≡ empty_part
+  pub no_data : (a : ℕ) → theirs.address ≡ standard.defined a → address_valid s a ≡ false → ours.«data» ≡ empty_part
 
--- compact storage: its raw data, which have no address; where there are none the part is the empty one
-pub record SameCompact (ours : DataLayout) (theirs : CompactStorage) : Type 0 where
-  pub address : ours.address ≡ option_addresses.None
-  pub raw_data : 0 < theirs.size → ours.«data» ≡ layouts.Part (record { position = theirs.raw_data.position; length = theirs.raw_data.length })
-  pub no_size : theirs.size ≡ 0 → ours.«data» ≡ layouts.Part empty_part
-
--- chunked storage: the address of its tree, and the dimensionality, which is 1 to 5 wherever it is read. The chunks are told in SameTrees.
-pub record SameChunked (ours : DataLayout) (theirs : ChunkedStorage) : Type 0 where
-  pub address : ours.address ≡ option_addresses.Some (address_in theirs.address)
-  pub dimensionality : ours.«data» ≡ layouts.Chunks theirs.dimensionality
-  pub least : 1 ≤ theirs.dimensionality
-  pub most : theirs.dimensionality ≤ 5
-
+-- compact storage: its raw data are not handed out (entry 41), and have no address
 abbrev pub SameProperties : State → DataLayout → LayoutProperties → Type 0
-SameProperties s ours (storages.compact c) = SameCompact ours c
+SameProperties s ours (storages.compact c) = ours ≡ record { address = option_addresses.None; «data» = empty_part }
 SameProperties s ours (storages.contiguous c) = SameContiguous s ours c
-SameProperties s ours (storages.chunked c) = SameChunked ours c
 
 abbrev pub SameLayout : State → DataLayout → DataLayout3 → Type 0
 SameLayout s ours theirs = SameProperties s ours theirs.properties

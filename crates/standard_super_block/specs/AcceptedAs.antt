@@ -12,15 +12,15 @@ use Rattle.standard_super_block.specs.ReadSuperblocks.{ReadSuperblock}
 -- over a file whose superblock is read, and the messages of a header
 module _ (file : List ℕ) {end : ℕ} {x : Superblock} (r : ReadSuperblock file end x) (xs : List HeaderMessage) where
   -- these are the messages of the header at its root address, with its widths and its end-of-file address; the conditions without a table, and with one
-  -- of n words and a chunk table of k words
+  -- of n words
   abbrev pub CheckedRootHeader : Type 0
   CheckedRootHeader = CheckedObjectHeader file x.size_of_offsets x.size_of_lengths r.end_of_file r.root xs
 
-  abbrev pub ReadRootHeader : ℕ → ℕ → Type 0
-  ReadRootHeader n k = ReadObjectHeader file x.size_of_offsets x.size_of_lengths r.end_of_file r.root n k xs
+  abbrev pub ReadRootHeader : ℕ → Type 0
+  ReadRootHeader n = ReadObjectHeader file x.size_of_offsets x.size_of_lengths r.end_of_file r.root n xs
 
-  -- the words w tell of an object that is that header, in a table of n words, which ends as t, and a chunk table of k words, which ends as c
-  pub record RootAcceptedAs (h : CheckedRootHeader) (n k : ℕ) (t c w : List ℕ) : Type 0 where
+  -- the words w tell of an object that is that header, in a table of n words, which ends as t
+  pub record RootAcceptedAs (h : CheckedRootHeader) (n : ℕ) (t w : List ℕ) : Type 0 where
     pub object : DataObject
     pub words : w ≡ words_of object
-    pub header : AcceptedAs file x.size_of_offsets x.size_of_lengths r.end_of_file r.root n k xs h object t c
+    pub header : AcceptedAs file x.size_of_offsets x.size_of_lengths r.end_of_file r.root n xs h object t

@@ -1,5 +1,5 @@
 -- A plain file of the specification, superblock and root header, that no listed limit or refusal turns back passes the check, and is accepted, with
--- exactly its header's messages and chunks. Assumes nothing.
+-- exactly its header's messages. Assumes nothing.
 use Rattle.std.specs.Prelude.{ℕ, ◌≡◌, List, length}
 use Rattle.std.proofs.Common.{sym, ◌∙◌}
 use Rattle.format.specs.Format.{Stands, Out}
@@ -9,7 +9,7 @@ use Rattle.data_object_check.specs.declared.CheckAnswer.TheVariants as checks
 use Rattle.data_object_check.specs.Checked.{Checked}
 use Rattle.data_object_words.specs.Handed.{Handed}
 use Rattle.data_object_root.specs.Root.{HandedBy, HandedRoot, CheckedBy, CheckedRoot}
-use Rattle.standard.specs.AddressLaws.{same_defined}
+use Rattle.standard.specs.Fields.{defined}
 use Rattle.standard.specs.Headers.{HeaderMessage}
 use Rattle.standard.specs.Superblocks.{Superblock, superblock23}
 use Rattle.standard_header.specs.Same.{no_continuations}
@@ -19,6 +19,9 @@ use Rattle.standard_super_block.specs.Same.{SameSuperBlock}
 use Rattle.standard_super_block.specs.ReadSuperblocks.{ReadSuperblock}
 use Rattle.standard_super_block.specs.AcceptedAs.{CheckedRootHeader, ReadRootHeader, RootAcceptedAs}
 use Rattle.standard_super_block.specs.Ties.{superblock_is_read}
+
+same_defined : {m n : ℕ} → defined m ≡ defined n → m ≡ n
+same_defined e = cc
 
 -- over a file whose superblock stands up to q and is read, and the messages of the header at its root address
 module _ (file : List ℕ) (q : ℕ) (x : Superblock) (h : Stands file superblock23 0 q x) (r : ReadSuperblock file q x) (xs : List HeaderMessage) where
@@ -40,12 +43,12 @@ module _ (file : List ℕ) (q : ℕ) (x : Superblock) (h : Stands file superbloc
       header_passes file x.size_of_offsets x.size_of_lengths r.end_of_file r.root xs o a
       (with_values (λ i l e p. Checked file i l e p a) b.0 b.2 (by_answer (CheckedBy file a) b.1 d))
 
-  pub root_is_accepted : (n k : ℕ) (o : ReadRootHeader file r xs n k) (t c w : List ℕ) → HandedRoot file n k t c w → RootAcceptedAs file r xs o.checked n k t c w
-  root_is_accepted n k o t c w d =
+  pub root_is_accepted : (n : ℕ) (o : ReadRootHeader file r xs n) (t w : List ℕ) → HandedRoot file n t w → RootAcceptedAs file r xs o.checked n t w
+  root_is_accepted n o t w d =
       let b = superblock_is_read file q x h r in
-      let y = with_values (λ i l e p. Handed file i l e p n k t c w) b.0 b.2 (by_answer (HandedBy file n k t c w) b.1 d) in
+      let y = with_values (λ i l e p. Handed file i l e p n t w) b.0 b.2 (by_answer (HandedBy file n t w) b.1 d) in
       record {
         object = y.object;
         words = y.words;
-        header = header_is_accepted file x.size_of_offsets x.size_of_lengths r.end_of_file r.root xs n k o y.object t c y.decoded;
+        header = header_is_accepted file x.size_of_offsets x.size_of_lengths r.end_of_file r.root xs n o y.object t y.decoded;
       }

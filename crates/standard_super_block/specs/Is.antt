@@ -9,9 +9,9 @@ use Rattle.standard.specs.Fields.{defined}
 use Rattle.standard.specs.Superblocks.{Superblock, superblock23, ValidChecksum}
 use Rattle.standard_header.specs.HeaderIs.{Standard}
 
--- Over a file, a table of n words, which ends as t, and a chunk table of k words, which ends as c, with the words w; and the longest name of a member
--- that the specification's formats are asked for.
-module _ (file : List ℕ) (n k longest : ℕ) (t c w : List ℕ) where
+-- Over a file, a table of n words, which ends as t, with the words w; and the longest name of a member that the specification's formats are asked
+-- for.
+module _ (file : List ℕ) (n longest : ℕ) (t w : List ℕ) where
   pub record RootIs : Type 0 where
     -- the superblock at byte 0
     pub superblock : Superblock
@@ -29,4 +29,4 @@ module _ (file : List ℕ) (n k longest : ℕ) (t c w : List ℕ) where
     pub next : ℕ
     pub count : ℕ
     pub answer : object.answer ≡ answers.Read next count
-    pub header : Standard file superblock.size_of_offsets superblock.size_of_lengths end_of_file root n k longest next count object t c
+    pub header : Standard file superblock.size_of_offsets superblock.size_of_lengths end_of_file root n longest next count object t

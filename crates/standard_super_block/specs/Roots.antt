@@ -17,16 +17,16 @@ use Rattle.standard_header.specs.Handed.{decoded_standard}
 use Rattle.standard_super_block.specs.Is.{RootIs}
 use Rattle.standard_super_block.specs.Ties.{super_block_tied, super_block_checksum}
 
--- Over a file, a table of n words, which ends as t, and a chunk table of k words, which ends as c, with the words w; and the longest name of a member
--- that the specification's formats are asked for.
-module _ (file : List ℕ) (n k longest : ℕ) (t c w : List ℕ) where
+-- Over a file, a table of n words, which ends as t, with the words w; and the longest name of a member that the specification's formats are asked
+-- for.
+module _ (file : List ℕ) (n longest : ℕ) (t w : List ℕ) where
   -- of every file that is not refused
-  pub root_standard : 4095 ≤ longest → HandedRoot file n k t c w → get_or w 0 0 ≡ 0 → RootIs file n k longest t c w
+  pub root_standard : 4095 ≤ longest → HandedRoot file n t w → get_or w 0 0 ≡ 0 → RootIs file n longest t w
   root_standard enough h z = by_block (super_block_of file) refl h
     where
       by_answer : (b : SuperBlock) (q : ℕ) → super_block_of file ≡ found b q
-          → (d : Handed file b.size_of_offsets b.size_of_lengths b.end_of_file_address b.root_group_object_header_address n k t c w)
-          → (a : Answer) → d.object.answer ≡ a → RootIs file n k longest t c w
+          → (d : Handed file b.size_of_offsets b.size_of_lengths b.end_of_file_address b.root_group_object_header_address n t w)
+          → (a : Answer) → d.object.answer ≡ a → RootIs file n longest t w
       by_answer b q e d (answers.Read next count) f =
           let x = super_block_tied.ties file 0 q b (sound file super_block 0 q b (super_block_read file e).1) in
           let r = x.related in
@@ -46,12 +46,12 @@ module _ (file : List ℕ) (n k longest : ℕ) (t c w : List ℕ) where
             answer = f;
             header =
                 rw (← r.size_of_offsets, ← r.size_of_lengths)
-                (decoded_standard file b.size_of_offsets b.size_of_lengths b.end_of_file_address b.root_group_object_header_address n k longest enough d.object t c d.decoded next count f);
+                (decoded_standard file b.size_of_offsets b.size_of_lengths b.end_of_file_address b.root_group_object_header_address n longest enough d.object t d.decoded next count f);
           }
       by_answer b q e d (answers.Refused y) f = absurd (refusal_positive y (rw (d.words, f) at z))
 
-      by_block : (o : Out SuperBlock) → super_block_of file ≡ o → HandedBy file n k t c w o → RootIs file n k longest t c w
+      by_block : (o : Out SuperBlock) → super_block_of file ≡ o → HandedBy file n t w o → RootIs file n longest t w
       by_block (found b q) e d = by_answer b q e d d.object.answer refl
       by_block (refused r) e d =
-          let zero : r ≡ 0 = rw d.1.1 at z in
-          absurd (refusal_not_0 file (e ∙ ap (λ (m : ℕ). refused m) zero))
+          let zero : r ≡ 0 = rw d.1 at z in
+          absurd (refusal_not_0 file (e ∙ ap (λ (k : ℕ). refused k) zero))

@@ -107,20 +107,20 @@ its_header =
 abbrev state : State
 state = state_for 8 8 91409
 
-links : ReadBody tester state 78 112 2 []
+links : ReadBody tester state 78 112 2
 unfolding read bind le optional address optional_address link_info_message
 links = link_info_lem 112 _ (sound tester (link_info_message 8) 78 112 _ refl) (omega arith)
 
-group : ReadBody tester state 118 120 10 []
+group : ReadBody tester state 118 120 10
 unfolding read bind le optional group_info_message
 group = group_info_lem 120 _ (sound tester group_info_message 118 120 _ refl) (omega arith)
 
-attributes : ReadBody tester state 126 154 21 []
+attributes : ReadBody tester state 126 154 21
 unfolding read bind le optional address optional_address attribute_info_message
 attributes = attribute_info_lem 154 _ (sound tester (attribute_info_message 8) 126 154 _ refl) (omega arith)
 
-abbrev message : (type flags position size : ℕ) → bit_and flags 0b11111010 ≡ 0 → (type ≡ 16 → ⊥) → ReadBody tester state position (position + size) type [] → ReadMessage tester state (ordered_message type flags position size)
-message type flags position size f n b = record { flags = f; chunks = []; body_read = λ _. b; no_chunks = λ _. refl; block_read = λ q c o t h e. absurd (n t) }
+message : (type flags position size : ℕ) → bit_and flags 0b11111010 ≡ 0 → (type ≡ 16 → ⊥) → ReadBody tester state position (position + size) type → ReadMessage tester state (ordered_message type flags position size)
+message type flags position size f n b = record { flags = f; body_read = λ _. b; block_read = λ q c o t h e. absurd (n t) }
 
 unfoldable its_root : CheckedRootHeader tester a_superblock_that_is_read tester_messages
 unfolding its_header levels a_superblock_that_is_read
@@ -145,13 +145,11 @@ its_root =
         ),
       );
       few = omega arith;
-      few_chunks = omega arith;
     }
 
--- with a table of four rows, and no chunk table
-pub a_root_that_is_accepted : ReadRootHeader tester a_superblock_that_is_read tester_messages 48 0
-unfolding its_root
-a_root_that_is_accepted = record { checked = its_root; room = omega arith; chunk_room = omega arith }
+-- with a table of four rows
+pub a_root_that_is_accepted : ReadRootHeader tester a_superblock_that_is_read tester_messages 48
+a_root_that_is_accepted = record { checked = its_root; room = omega arith }
 
 -- and so every answer of the check is this one
 pub tester_passes : (a : CheckAnswer) → CheckedRoot tester a → a ≡ checks.Passed (record { next = 576; entries = 4; rows = 4 })

@@ -8,7 +8,6 @@ use Rattle.format.specs.Laws.{sound}
 use Rattle.helpers.specs.Facts.{met}
 use Rattle.lookup3.specs.Lookup3.{lookup3}
 use Rattle.row.specs.Rows.{row_words}
-use Rattle.chunk_row.specs.Chunks.{chunk_row}
 use Rattle.data_object_words.specs.Handed.{Handed}
 use Rattle.data_object_words.specs.Told.{rows_told}
 use Rattle.test_report.specs.declared.Matched.{Matched}
@@ -65,11 +64,10 @@ sum_compared input expected {x} {y} l e f = (λ b. (l, sym e ∙ eqb-true x y b 
 pub sum_other : (input expected : List ℕ) → (length expected ≡ 4 → ⊥) → Sums input expected false
 sum_other input expected n = (λ b. contrary b, λ s. absurd (n s.0))
 
--- decoding into 64 empty rows and 64 empty chunk rows
-module _ (file : List ℕ) (l : Lead) (t c w : List ℕ)
-    (h : Handed file l.offsets l.lengths l.end_of_file l.position (length (replicate {A = ℕ} (64 * row_words) 0)) (length (replicate {A = ℕ} (64 * chunk_row) 0)) t c w) where
+-- decoding into 64 empty rows
+module _ (file : List ℕ) (l : Lead) (t w : List ℕ) (h : Handed file l.offsets l.lengths l.end_of_file l.position (length (replicate {A = ℕ} (64 * row_words) 0)) t w) where
   pub few_rows : get_or w 3 0 ≤ 64
   few_rows = omega (arith, rows_told h, length-replicate {A = ℕ} (64 * row_words) 0)
 
   pub answered : (text : List ℕ → List ℕ → List ℕ) (expected : List ℕ) (reached : Matched) (b : Bool) → Follows expected start reached (text t w) → Whole expected reached b → Replays text expected file l b
-  answered text expected reached b f v = record { table = t; chunks = c; words = w; handed = rw (length-replicate {A = ℕ} (64 * row_words) 0, length-replicate {A = ℕ} (64 * chunk_row) 0) at h; says = v (text t w) f }
+  answered text expected reached b f v = record { table = t; words = w; handed = rw (length-replicate {A = ℕ} (64 * row_words) 0) at h; says = v (text t w) f }

@@ -2,7 +2,6 @@
 use Rattle.std.specs.Prelude.{ℕ, ◌*◌, ◌≡◌, refl, Bool, true, false, List}
 use Rattle.std.proofs.Common.{sym, ap₂, ◌∙◌}
 use Rattle.row.specs.Rows.{row_words}
-use Rattle.chunk_row.specs.Chunks.{chunk_row}
 use Rattle.data_object_words.specs.Unique.{handed_unique}
 use Rattle.test_replayer.specs.declared.Lead.{Lead}
 use Rattle.test_replayer.specs.Replays.{Replays}
@@ -13,8 +12,8 @@ one_answer text expected file l b b' a a' = go b b' (λ h. a'.says.1 (sym same_t
   where
     same_text : text a.table a.words ≡ text a'.table a'.words
     same_text =
-        let same = handed_unique file l.offsets l.lengths l.end_of_file l.position (64 * row_words) (64 * chunk_row) a.table a'.table a.chunks a'.chunks a.words a'.words a.handed a'.handed in
-        ap₂ text same.0 same.1.1
+        let same = handed_unique file l.offsets l.lengths l.end_of_file l.position (64 * row_words) a.table a'.table a.words a'.words a.handed a'.handed in
+        ap₂ text same.0 same.1
 
     go : (x y : Bool) → (x ≡ true → y ≡ true) → (y ≡ true → x ≡ true) → x ≡ y
     go true y f g = sym (f refl)

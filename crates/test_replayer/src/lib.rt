@@ -11,7 +11,6 @@ ghost use Rattle.test_replayer.specs.Leads.{lead as lead_format, lead_out};
 ghost use Rattle.test_replayer.specs.Passes.{Lists, ListsHeader, HeaderSays, Sums, Says};
 ghost use Rattle.test_replayer.specs.Replays.{Replays, text_of};
 
-use chunk_row::CHUNK_WORDS;
 use data_object_check::{CheckAnswer, HeaderFigures, check_data_object};
 use data_object_words::header_words;
 use helpers::{ReadU8, ReadU64, bytes_4, le_u8, le_u64};
@@ -160,7 +159,7 @@ fn expect_text(
     expected: &[u8],
     file: &[u8],
     table: &[u64],
-    words: &[u64; 67],
+    words: &[u64; 65],
 ) -> Matched
     requires { get_or words.now 3 0 ≤ length table.now / row_words }
     ensures { Follows expected.now start result (text_of numbers file.now table.now words.now) }
@@ -171,14 +170,13 @@ fn expect_text(
     expect_report(expected, file, table, words)
 }
 
-// Whether the header of a file, decoded into a table of 64 rows and a chunk table of 64, has the
-// numbers, or else the report, that are expected.
+// Whether the header of a file, decoded into a table of 64 rows, has the numbers, or else the
+// report, that are expected.
 fn replays(numbers: bool, file: &[u8], lead: Lead, expected: &[u8]) -> bool
     ensures { Replays (text_of numbers file.now) expected.now file.now lead result }
 {
     let mut table = [0u64; 64 * ROW_WORDS];
-    let mut chunks = [0u64; 64 * CHUNK_WORDS];
-    let mut words = [0u64; 67];
+    let mut words = [0u64; 65];
     header_words(
         file,
         lead.position,
@@ -186,7 +184,6 @@ fn replays(numbers: bool, file: &[u8], lead: Lead, expected: &[u8]) -> bool
         lead.lengths as u64,
         lead.end_of_file,
         &mut table,
-        &mut chunks,
         &mut words,
     );
     let reached = expect_text(numbers, expected, file, &table, &words);

@@ -119,11 +119,11 @@ fn expect_data(expected: &[u8], from: Matched, file: &[u8], part: Part) -> Match
 fn expect_words(
     expected: &[u8],
     from: Matched,
-    words: &[u64; 67],
+    words: &[u64; 65],
     first: usize,
     last: usize,
 ) -> Matched
-    requires { (first ≤ last) × (last < 67) }
+    requires { (first ≤ last) × (last < 65) }
     ensures { Follows expected.now from result (words_line words.now first last) }
 {
     let mut met = from;
@@ -135,8 +135,8 @@ fn expect_words(
     expect_field(expected, met, true, words[last], b'\n')
 }
 
-// A line for each record; a layout's data stand elsewhere, and its chunks nowhere.
-fn expect_records(expected: &[u8], from: Matched, words: &[u64; 67]) -> Matched
+// A line for each record; a layout's data stand elsewhere.
+fn expect_records(expected: &[u8], from: Matched, words: &[u64; 65]) -> Matched
     ensures { Follows expected.now from result (records_of words.now) }
 {
     let met = expect_bytes(expected, from, b"dataspace,");
@@ -161,7 +161,7 @@ fn expect_refused(expected: &[u8]) -> Matched
 
 // How far the report of a header, given as its words and its table, stands at the start of what is
 // expected.
-pub fn expect_report(expected: &[u8], file: &[u8], table: &[u64], words: &[u64; 67]) -> Matched
+pub fn expect_report(expected: &[u8], file: &[u8], table: &[u64], words: &[u64; 65]) -> Matched
     requires { get_or words.now 3 0 ≤ length table.now / row_words }
     ensures { Follows expected.now start result (report_of file.now table.now words.now) }
 {
@@ -201,7 +201,7 @@ fn expect_row_numbers(expected: &[u8], from: Matched, table: &[u64], rows: usize
 }
 
 // How far the numbers of a header's rows stand at the start of what is expected.
-pub fn expect_numbers(expected: &[u8], table: &[u64], words: &[u64; 67]) -> Matched
+pub fn expect_numbers(expected: &[u8], table: &[u64], words: &[u64; 65]) -> Matched
     requires { get_or words.now 3 0 ≤ length table.now / row_words }
     ensures { Follows expected.now start result (numbers_of table.now words.now) }
 {

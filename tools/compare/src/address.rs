@@ -11,9 +11,8 @@ use crate::rust::{CONTINUATION, Entry};
 const LINK_INFO: u8 = 2;
 pub const LAYOUT: u8 = 8;
 const ATTRIBUTE_INFO: u8 = 21;
-/// Version and class of the layouts that have an address; that of chunks stands behind another byte.
+/// Version and class of a layout that has an address.
 const CONTIGUOUS: &[u8] = &[3, 1];
-const CHUNKED: &[u8] = &[3, 2];
 
 /// The largest number that a width writes.
 pub fn all_ones(width: u8) -> u64 {
@@ -73,8 +72,6 @@ pub enum Place {
     AttributeNames,
     AttributeOrder,
     Layout,
-    /// The tree of a chunked layout.
-    Tree,
     Continuation,
     Extension,
     EndOfFile,
@@ -127,7 +124,6 @@ impl Place {
             Place::AttributeNames => "name index address of attribute info",
             Place::AttributeOrder => "creation order address of attribute info",
             Place::Layout => "data address",
-            Place::Tree => "chunk tree address",
             Place::Continuation => "continuation offset",
             Place::Extension => "extension address",
             Place::EndOfFile => "end-of-file address",
@@ -177,7 +173,9 @@ pub fn numbers(input: &Input, entry: &Entry) -> impl Iterator<Item = (Place, u64
     let (places, at) = match entry.kind {
         LINK_INFO => info(input, entry.body, LINK, 8),
         ATTRIBUTE_INFO => info(input, entry.body, ATTRIBUTE, 2),
-        LAYOUT => layout(input, entry.body),
+        LAYOUT if input.file.get(entry.body..entry.body + 2) == Some(CONTIGUOUS) => {
+            (&[Place::Layout][..], entry.body + 2)
+        }
         CONTINUATION => (&[Place::Continuation][..], entry.body),
         _ => (&[][..], entry.body),
     };
@@ -185,15 +183,6 @@ pub fn numbers(input: &Input, entry: &Entry) -> impl Iterator<Item = (Place, u64
     let number = move |at: usize| input.file.get(at..at + width).map(get);
     let fields = places.iter().enumerate();
     fields.map_while(move |(i, place)| Some((*place, number(at + i * width)?)))
-}
-
-/// The address of a layout, and where it stands.
-fn layout(input: &Input, body: usize) -> (&'static [Place], usize) {
-    match input.file.get(body..body + 2) {
-        Some(CONTIGUOUS) => (&[Place::Layout], body + 2),
-        Some(CHUNKED) => (&[Place::Tree], body + 3),
-        _ => (&[], body),
-    }
 }
 
 /// The addresses of a link or attribute info, and where they begin: behind version 0, the flags, and

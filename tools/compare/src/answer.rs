@@ -6,7 +6,6 @@ use std::io::Write;
 use crate::address::{Address, OptionalAddress, Place, Seen, all_ones};
 use crate::input::Input;
 use crate::number::Number;
-use crate::storage::Chunk;
 
 /// What a superblock hands out.
 #[derive(Clone, Debug, Default, PartialEq, Eq)]
@@ -244,15 +243,6 @@ impl Records {
     }
 }
 
-/// Where the data of the layout that wins stand, and its chunks.
-#[derive(Clone, Debug, Default, PartialEq, Eq)]
-pub struct Stored {
-    pub position: u64,
-    /// Of a chunked layout; 0 of others.
-    pub dimensionality: u64,
-    pub chunks: Vec<Chunk>,
-}
-
 #[derive(Clone, Debug, Default, PartialEq, Eq)]
 pub struct Header {
     pub next: u64,
@@ -260,8 +250,6 @@ pub struct Header {
     pub rows: Vec<Row>,
     pub records: Records,
     pub data: Vec<u8>,
-    /// Absent in the Rust, which does not tell, and so in no report.
-    pub stored: Option<Stored>,
 }
 
 /// The report of a header that is refused.
@@ -302,21 +290,6 @@ impl Header {
         let some = numbers.filter(|(_, number)| *number != Number::default());
         some.map(|(row, Number { case, bits })| format!("number,{row},{case},{bits}\n"))
             .collect()
-    }
-
-    /// The dimensionality and the number of chunks, and a line for each chunk, of a chunked layout, which
-    /// are no part of the report.
-    pub fn chunks(&self) -> String {
-        let Some(stored) = self.stored.as_ref().filter(|one| one.dimensionality > 0) else {
-            return String::new();
-        };
-        let mut out = Vec::new();
-        let count = stored.chunks.len() as u64;
-        line(&mut out, "chunks", &[stored.dimensionality, count]);
-        for chunk in &stored.chunks {
-            line(&mut out, "chunk", chunk);
-        }
-        String::from_utf8_lossy(&out).into_owned()
     }
 
     /// Whether every name and text is UTF-8 as it stands in the file.

@@ -20,7 +20,6 @@ pub mod random;
 pub mod real;
 pub mod rust;
 pub mod scan;
-pub mod storage;
 pub mod sum;
 pub mod text;
 

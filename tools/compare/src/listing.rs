@@ -3,20 +3,16 @@
 
 use std::io::Write;
 
-use crate::address::LAYOUT;
-use crate::input::Input;
-use crate::pair::{CHUNKS_TOO_FEW, LISTED_CHUNKS, LISTED_ROWS, TABLE_TOO_SMALL};
+use crate::pair::{LISTED_ROWS, TABLE_TOO_SMALL};
 use crate::port::{NAME, PART, ROW_WORDS, Written};
-use crate::storage::{self, MOST_CHUNKS};
 
 /// The bytes of the largest file that is listed.
 const LARGEST_FILE: usize = 65_536;
 const FILE_SIZE: u64 = 2;
 
-/// The listing of a file whose root was written with enough rows and chunk rows; by hand its header is
-/// the input, where there is a superblock. Whatever is wrong with it has its number, and only a header
-/// that is right is refused for its rows, or for its chunks.
-pub fn expected(file: &[u8], root: &Written, input: Option<&Input>) -> Vec<u8> {
+/// The listing of a file whose root was written with enough rows. Whatever is wrong with it has its
+/// number, and only a header that is right is refused for its rows.
+pub fn expected(file: &[u8], root: &Written) -> Vec<u8> {
     let figures = &root.object.figures;
     if file.len() > LARGEST_FILE {
         return refused(FILE_SIZE);
@@ -24,30 +20,10 @@ pub fn expected(file: &[u8], root: &Written, input: Option<&Input>) -> Vec<u8> {
     if figures.refused != 0 {
         return refused(figures.refused);
     }
-    match input.and_then(|input| without_room(input, root)) {
-        Some(number) => refused(number),
-        None => lines(root),
+    if figures.rows > LISTED_ROWS as u64 {
+        return refused(TABLE_TOO_SMALL);
     }
-}
-
-/// The number of the first row for which the listing has no room, by itself or for its chunks; these are
-/// read before the row is taken.
-fn without_room(input: &Input, root: &Written) -> Option<u64> {
-    let rows = root.table.chunks_exact(ROW_WORDS);
-    let rows = rows.take(root.object.figures.rows as usize).enumerate();
-    let mut numbers = rows.filter_map(|(number, row)| {
-        if row[0] == u64::from(LAYOUT) && chunks(input, row[3]) > LISTED_CHUNKS {
-            return Some(CHUNKS_TOO_FEW);
-        }
-        (number >= LISTED_ROWS).then_some(TABLE_TOO_SMALL)
-    });
-    numbers.next()
-}
-
-/// How many chunks a layout has.
-fn chunks(input: &Input, body: u64) -> usize {
-    let data = storage::read(input, body as usize, MOST_CHUNKS);
-    data.map_or(0, |data| data.chunks().len())
+    lines(root)
 }
 
 /// The listing of all rows that were written, and the last line.

@@ -4,13 +4,10 @@
 use std::mem::offset_of;
 
 use crate::address::Address;
-use crate::answer::{Header, Records, Row, Stored, SuperBlock, words};
+use crate::answer::{Header, Records, Row, SuperBlock, words};
 use crate::input::Input;
 use crate::number::Number;
-use crate::pair::{
-    ALL_CHUNKS, ALL_ROWS, CHUNKS_TOO_FEW, Figures, Filling, Lent, Pair, Sizes, TABLE_TOO_SMALL,
-};
-use crate::storage::{CHUNK_WORDS, Chunk};
+use crate::pair::{ALL_ROWS, Figures, Filling, Pair, Sizes, TABLE_TOO_SMALL};
 
 pub const ROW_WORDS: usize = 12;
 /// The words of a row that tell whether there is a name and a part, each before its position and
@@ -19,20 +16,14 @@ pub const NAME: usize = 4;
 pub const PART: usize = 7;
 /// The first of a row's two words that are of its number.
 pub const NUMBER: usize = 10;
-/// Rows and chunk rows that are lent first: enough for most headers, and cleared quickly. Where rows
-/// were too few, all are lent; where chunk rows were, many and then all.
-const FEW: Lent = Lent {
-    rows: 64,
-    chunks: 64,
-};
-const MANY_CHUNKS: usize = 16_384;
+/// Rows that are lent first: enough for most headers, and cleared quickly. Where they were too few,
+/// all are lent.
+const FEW_ROWS: usize = 64;
 /// The bytes that the listing is lent.
 const LISTING: usize = 98_304;
-/// The words of an object; the numbers of that of its data's length, of the number of its chunks, and
-/// of the dataspace's elements.
-const OBJECT_WORDS: usize = 67;
+/// The words of an object; the numbers of its last one, and of the dataspace's elements.
+const OBJECT_WORDS: usize = 65;
 const DATA_LENGTH: usize = 64;
-const CHUNKS: usize = 66;
 const ELEMENTS: usize = 19;
 
 /// The words of dowringaf.h.
@@ -43,15 +34,12 @@ pub struct Object {
     pub records: Records,
     pub data_position: u64,
     pub data_length: u64,
-    pub dimensionality: u64,
-    pub chunks: u64,
 }
 
 // The words stand where dowringaf.h has them, or the tool is not built.
 const _: () = {
     assert!(size_of::<Object>() == 8 * OBJECT_WORDS);
     assert!(offset_of!(Object, data_length) == 8 * DATA_LENGTH);
-    assert!(offset_of!(Object, chunks) == 8 * CHUNKS);
     assert!(offset_of!(Object, records.data_space.elements.number) == 8 * ELEMENTS);
 };
 
@@ -77,8 +65,6 @@ unsafe extern "C" {
         end_of_file: u64,
         table: *mut u64,
         table_words: usize,
-        chunks: *mut u64,
-        chunk_words: usize,
         object: *mut Object,
     );
     fn dowringaf_super_block(file: *const u8, file_bytes: usize) -> Block;
@@ -87,8 +73,6 @@ unsafe extern "C" {
         file_bytes: usize,
         table: *mut u64,
         table_words: usize,
-        chunks: *mut u64,
-        chunk_words: usize,
         object: *mut Object,
     );
     fn dowringaf_check_data_object(
@@ -116,12 +100,11 @@ pub enum Outcome {
     Refused(u64),
 }
 
-/// What a call wrote: the object, and every word of the two tables that it was lent.
-#[derive(Clone, Debug, Default, PartialEq, Eq)]
+/// What a call wrote: the object, and every word of the table that it was lent.
+#[derive(Clone, Debug, PartialEq, Eq)]
 pub struct Written {
     pub object: Object,
     pub table: Vec<u64>,
-    pub chunks: Vec<u64>,
 }
 
 /// The port's answers for a plain file.
@@ -141,66 +124,62 @@ pub struct PlainAnswer {
     pub listing: Vec<u8>,
 }
 
-/// The port with the tables, the object and the listing that it is lent.
+/// The port with the table, the object and the listing that it is lent.
 pub struct Port {
     table: Vec<u64>,
-    chunks: Vec<u64>,
     object: Object,
-    /// What the first filling of an input wrote: the object, and the words of its rows and chunk rows.
-    first: Written,
+    /// What the first filling of an input wrote: the object, and the words of its rows.
+    first: (Object, Vec<u64>),
     listing: Vec<u8>,
 }
 
 impl Default for Port {
     fn default() -> Port {
-        Port::lending(Lent {
-            rows: ALL_ROWS,
-            chunks: FEW.chunks,
-        })
+        Port::lending(ALL_ROWS)
     }
 }
 
 impl Port {
-    /// A port that is lent tables of some rows and chunk rows.
-    pub fn lending(lent: Lent) -> Port {
+    /// A port that is lent a table of some rows.
+    pub fn lending(rows: usize) -> Port {
         Port {
-            table: vec![0; lent.rows * ROW_WORDS],
-            chunks: vec![0; lent.chunks * CHUNK_WORDS],
+            table: vec![0; rows * ROW_WORDS],
             object: Object::default(),
-            first: Written::default(),
+            first: (Object::default(), Vec::new()),
             listing: Vec::new(),
         }
     }
 
-    /// The port's answer, first with few rows, and where those do not do with all. The tables and the
-    /// object come as the call before left them, and the tables' words after the last row must be zero.
+    /// The port's answer, first with few rows, and where those do not do with all. The table and the
+    /// object come as the call before left them, and the table's words after the last row must be
+    /// zero.
     pub fn answer(&mut self, input: &Input) -> Outcome {
-        let lent = self.lend(Asked::Header(input));
-        self.outcome(lent, &input.file)
+        let words = self.lend(Asked::Header(input));
+        outcome(&self.object, &self.table[..words], &input.file)
     }
 
     /// The same, and the check of the input beside its fillings with other tables.
     pub fn answers(&mut self, input: &Input, sizes: Sizes) -> (Outcome, Pair) {
         let asked = Asked::Header(input);
-        let lent = self.lend(asked);
-        let outcome = self.outcome(lent, &input.file);
-        (outcome, self.pair(asked, lent, sizes))
+        let words = self.lend(asked);
+        let outcome = outcome(&self.object, &self.table[..words], &input.file);
+        (outcome, self.pair(asked, words, sizes))
     }
 
     /// The port's answers for a plain file.
     pub fn plain_answer(&mut self, file: &[u8], sizes: Sizes) -> PlainAnswer {
         let super_block = super_block(file);
         let asked = Asked::Root(file);
-        let lent = self.lend(asked);
-        let root = self.written(lent);
-        let pair = self.pair(asked, lent, sizes);
+        let words = self.lend(asked);
+        let root = self.written(words);
+        let pair = self.pair(asked, words, sizes);
         let (by_hand, check_by_hand) = match &super_block {
             Ok(block) => {
                 let input = block.input(file);
-                self.call(Asked::Header(&input), lent);
-                (self.written(lent), check(&input))
+                self.call(Asked::Header(&input), words);
+                (self.written(words), check(&input))
             }
-            Err(number) => (Written::refused(*number, lent), Figures::refused(*number)),
+            Err(number) => (Written::refused(*number, words), Figures::refused(*number)),
         };
         PlainAnswer {
             super_block,
@@ -212,104 +191,108 @@ impl Port {
         }
     }
 
-    /// A call with few rows and chunk rows, and where those do not do with more. Answers what the last
-    /// was lent.
-    fn lend(&mut self, asked: Asked) -> Lent {
-        let mut lent = FEW;
-        loop {
-            self.call(asked, lent);
-            match self.object.figures.refused {
-                TABLE_TOO_SMALL if lent.rows < ALL_ROWS => lent.rows = ALL_ROWS,
-                CHUNKS_TOO_FEW if lent.chunks < MANY_CHUNKS => lent.chunks = MANY_CHUNKS,
-                CHUNKS_TOO_FEW if lent.chunks < ALL_CHUNKS => lent.chunks = ALL_CHUNKS,
-                _ => return lent,
-            }
+    /// A call with few rows, and where those do not do with all. Answers the words of the last.
+    fn lend(&mut self, asked: Asked) -> usize {
+        let few = self.table.len().min(FEW_ROWS * ROW_WORDS);
+        self.call(asked, few);
+        if self.object.figures.refused != TABLE_TOO_SMALL {
+            return few;
         }
+        self.call(asked, self.table.len());
+        self.table.len()
     }
 
-    /// The check, beside the filling that was just lent so much, and others.
-    fn pair(&mut self, asked: Asked, lent: Lent, sizes: Sizes) -> Pair {
-        self.first = Written {
-            object: self.object.clone(),
-            table: self.rows().to_vec(),
-            chunks: self.chunk_rows().to_vec(),
-        };
-        let first = (self.filling(lent), lent);
-        let listed = self.object.chunks as usize;
+    /// The check, beside the filling that just wrote over so many words, and others.
+    fn pair(&mut self, asked: Asked, words: usize, sizes: Sizes) -> Pair {
+        let rows = self.object.figures.rows as usize * ROW_WORDS;
+        self.first.0.clone_from(&self.object);
+        self.first.1.clear();
+        self.first.1.extend(&self.table[..rows]);
+        let first = self.filling(words / ROW_WORDS);
         let check = match asked {
             Asked::Header(input) => check(input),
             Asked::Root(file) => check_root(file),
         };
-        Pair::new(check, first, listed, sizes, &mut |lent| {
-            self.call(asked, lent);
+        Pair::new(check, first, sizes, &mut |lent| {
+            self.call(asked, lent * ROW_WORDS);
             self.filling(lent)
         })
     }
 
-    /// The words of the rows that are filled, and of the chunk rows.
-    fn rows(&self) -> &[u64] {
-        &self.table[..self.object.figures.rows as usize * ROW_WORDS]
-    }
-
-    fn chunk_rows(&self) -> &[u64] {
-        &self.chunks[..self.object.chunks as usize * CHUNK_WORDS]
-    }
-
-    /// What was just answered, lent so many rows.
-    fn filling(&self, lent: Lent) -> Filling {
-        let table = &self.table[..lent.rows * ROW_WORDS];
-        let chunks = &self.chunks[..lent.chunks * CHUNK_WORDS];
-        assert_unused(&self.object, table, chunks);
-        let first = &self.first;
-        let words = (self.rows(), self.chunk_rows());
-        let alike = self.object == first.object && words == (&first.table, &first.chunks);
+    /// What was just answered with so many rows lent.
+    fn filling(&self, lent: usize) -> Filling {
+        let rows = self.object.figures.rows as usize * ROW_WORDS;
+        let table = &self.table[..lent * ROW_WORDS];
+        assert_unused(&self.object, table);
+        let (object, first) = &self.first;
         Filling {
-            lent: lent.rows,
+            lent,
             figures: self.object.figures,
-            alike: self.object.figures.refused != 0 || alike,
+            alike: self.object.figures.refused != 0
+                || (self.object == *object && table[..rows] == first[..]),
         }
     }
 
-    fn outcome(&self, lent: Lent, file: &[u8]) -> Outcome {
-        let table = &self.table[..lent.rows * ROW_WORDS];
-        let chunks = &self.chunks[..lent.chunks * CHUNK_WORDS];
-        outcome(&self.object, table, chunks, file)
-    }
-
-    fn written(&self, lent: Lent) -> Written {
+    fn written(&self, words: usize) -> Written {
         Written {
             object: self.object.clone(),
-            table: self.table[..lent.rows * ROW_WORDS].to_vec(),
-            chunks: self.chunks[..lent.chunks * CHUNK_WORDS].to_vec(),
+            table: self.table[..words].to_vec(),
         }
     }
 
-    /// The call alone, over the whole tables: the position after the header and the rows filled, or
+    /// The call alone, over the whole table: the position after the header and the rows filled, or
     /// nothing where it refuses.
     pub fn data_object(&mut self, input: &Input) -> Option<(u64, u64)> {
-        call_by_hand(input, &mut self.table, &mut self.chunks, &mut self.object);
+        self.call_by_hand(input, self.table.len());
         let figures = self.object.figures;
         (figures.refused == 0).then_some((figures.next, figures.rows))
     }
 
     /// The root operation alone, as the call above.
     pub fn root_object(&mut self, file: &[u8]) -> Option<(u64, u64)> {
-        call_root(file, &mut self.table, &mut self.chunks, &mut self.object);
+        self.call_root(file, self.table.len());
         let figures = self.object.figures;
         (figures.refused == 0).then_some((figures.next, figures.rows))
     }
 
-    /// A filling over the first rows of the tables.
-    fn call(&mut self, asked: Asked, lent: Lent) {
-        let words = lent.chunks * CHUNK_WORDS;
-        if self.chunks.len() < words {
-            self.chunks.resize(words, 0);
-        }
-        let table = &mut self.table[..lent.rows * ROW_WORDS];
-        let chunks = &mut self.chunks[..words];
+    /// A filling over the first words of the table.
+    fn call(&mut self, asked: Asked, words: usize) {
         match asked {
-            Asked::Header(input) => call_by_hand(input, table, chunks, &mut self.object),
-            Asked::Root(file) => call_root(file, table, chunks, &mut self.object),
+            Asked::Header(input) => self.call_by_hand(input, words),
+            Asked::Root(file) => self.call_root(file, words),
+        }
+    }
+
+    fn call_by_hand(&mut self, input: &Input, words: usize) {
+        let table = &mut self.table[..words];
+        // The pointers come from slices with their lengths, the table and the object are borrowed
+        // alone, and the function keeps none of them.
+        unsafe {
+            dowringaf_data_object(
+                input.file.as_ptr(),
+                input.file.len(),
+                input.position,
+                input.offset_width.into(),
+                input.length_width.into(),
+                input.end_of_file,
+                table.as_mut_ptr(),
+                table.len(),
+                &mut self.object,
+            );
+        }
+    }
+
+    fn call_root(&mut self, file: &[u8], words: usize) {
+        let table = &mut self.table[..words];
+        // As above.
+        unsafe {
+            dowringaf_root_object(
+                file.as_ptr(),
+                file.len(),
+                table.as_mut_ptr(),
+                table.len(),
+                &mut self.object,
+            );
         }
     }
 
@@ -320,41 +303,6 @@ impl Port {
         // As above; the bytes that are lent are as many as the listing may have.
         let length = unsafe { dowringaf_list(file.as_ptr(), file.len(), out.as_mut_ptr()) };
         out[..length].to_vec()
-    }
-}
-
-fn call_by_hand(input: &Input, table: &mut [u64], chunks: &mut [u64], object: &mut Object) {
-    // The pointers come from slices with their lengths, the tables and the object are borrowed alone,
-    // and the function keeps none of them.
-    unsafe {
-        dowringaf_data_object(
-            input.file.as_ptr(),
-            input.file.len(),
-            input.position,
-            input.offset_width.into(),
-            input.length_width.into(),
-            input.end_of_file,
-            table.as_mut_ptr(),
-            table.len(),
-            chunks.as_mut_ptr(),
-            chunks.len(),
-            object,
-        );
-    }
-}
-
-fn call_root(file: &[u8], table: &mut [u64], chunks: &mut [u64], object: &mut Object) {
-    // As above.
-    unsafe {
-        dowringaf_root_object(
-            file.as_ptr(),
-            file.len(),
-            table.as_mut_ptr(),
-            table.len(),
-            chunks.as_mut_ptr(),
-            chunks.len(),
-            object,
-        );
     }
 }
 
@@ -401,16 +349,11 @@ fn super_block(file: &[u8]) -> Result<SuperBlock, u64> {
     Err(block.refused)
 }
 
-/// The tables' words after the last row must be zero. A refused object must have its number, one
+/// The table's words after the last row must be zero. A refused object must have its number, one
 /// element for the dataspace that it lacks, and zeros.
-fn assert_unused(object: &Object, table: &[u64], chunks: &[u64]) {
+fn assert_unused(object: &Object, table: &[u64]) {
     let unused = &table[object.figures.rows as usize * ROW_WORDS..];
     assert!(unused.iter().all(|word| *word == 0), "unused rows are zero");
-    let unused = &chunks[object.chunks as usize * CHUNK_WORDS..];
-    assert!(
-        unused.iter().all(|word| *word == 0),
-        "unused chunk rows are zero"
-    );
     if object.figures.refused != 0 {
         let mut refused = [0; OBJECT_WORDS];
         refused[0] = object.figures.refused;
@@ -420,29 +363,28 @@ fn assert_unused(object: &Object, table: &[u64], chunks: &[u64]) {
 }
 
 /// What was written, in the one form of both sides.
-fn outcome(object: &Object, table: &[u64], chunks: &[u64], file: &[u8]) -> Outcome {
-    assert_unused(object, table, chunks);
+fn outcome(object: &Object, table: &[u64], file: &[u8]) -> Outcome {
+    assert_unused(object, table);
     match object.figures.refused {
-        0 => Outcome::Read(Box::new(object.header(file, table, chunks))),
+        0 => Outcome::Read(Box::new(object.header(file, table))),
         number => Outcome::Refused(number),
     }
 }
 
 impl Written {
     /// A refusal: its number, records without a message, and zeros.
-    fn refused(number: u64, lent: Lent) -> Written {
+    fn refused(number: u64, words: usize) -> Written {
         Written {
             object: Object {
                 figures: Figures::refused(number),
                 ..Object::default()
             },
-            table: vec![0; lent.rows * ROW_WORDS],
-            chunks: vec![0; lent.chunks * CHUNK_WORDS],
+            table: vec![0; words],
         }
     }
 
     pub fn outcome(&self, file: &[u8]) -> Outcome {
-        outcome(&self.object, &self.table, &self.chunks, file)
+        outcome(&self.object, &self.table, file)
     }
 }
 
@@ -451,7 +393,7 @@ impl Object {
         words(self)
     }
 
-    fn header(&self, file: &[u8], table: &[u64], chunks: &[u64]) -> Header {
+    fn header(&self, file: &[u8], table: &[u64]) -> Header {
         let figures = &self.figures;
         let rows = table.chunks_exact(ROW_WORDS).take(figures.rows as usize);
         Header {
@@ -460,17 +402,6 @@ impl Object {
             rows: rows.map(|words| row(file, words)).collect(),
             records: self.records.clone(),
             data: bytes(file, self.data_position, self.data_length),
-            stored: Some(self.stored(chunks)),
-        }
-    }
-
-    fn stored(&self, chunks: &[u64]) -> Stored {
-        let rows = chunks.chunks_exact(CHUNK_WORDS).take(self.chunks as usize);
-        let chunk = |words: &[u64]| Chunk::try_from(words).expect("the words of a chunk");
-        Stored {
-            position: self.data_position,
-            dimensionality: self.dimensionality,
-            chunks: rows.map(chunk).collect(),
         }
     }
 }

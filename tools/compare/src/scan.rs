@@ -1,22 +1,20 @@
 //! What the bytes of messages show and no answer does: what stands outside the comparison, and the
 //! forms that the mended Rust reads otherwise than the published one.
 //!
-//! Outside are null dataspaces, compact data of more than 0 bytes and chunked layouts, and in attributes
-//! a type of more than 32 levels, and size times elements of 2^64 or more. The forms are members of
-//! version 1 compounds, and version 1 names above 8 bytes that are no multiple of 8; null dataspaces in
-//! attributes; and where end-of-file is above all ones of the width of offsets, undefined data addresses
-//! and continuation offsets.
+//! Outside are null dataspaces, and in attributes a type of more than 32 levels, and size times
+//! elements of 2^64 or more. The forms are members of version 1 compounds, and version 1 names above 8
+//! bytes that are no multiple of 8; null dataspaces in attributes; and where end-of-file is above all
+//! ones of the width of offsets, undefined data addresses and continuation offsets.
 //!
 //! Every field that the mended Rust tests before that is tested here too, so that a header which is
 //! refused or an attribute that fails before it gets so far stays in the comparison, with both.
 
 use std::fmt;
 
-use crate::address::{self, LAYOUT, Seen};
+use crate::address::{self, Seen};
 use crate::answer::NULL;
 use crate::input::{Input, get, padding};
 use crate::rust::Entry;
-use crate::storage::{self, MOST_CHUNKS, Met};
 
 pub const DATA_SPACE: u8 = 1;
 const DATA_TYPE: u8 = 3;
@@ -94,23 +92,9 @@ pub struct Attribute<'a> {
     pub value: usize,
 }
 
-/// A layout that has to be refused: which entry it is, and the number.
-#[derive(Clone, Copy, Debug, PartialEq, Eq)]
-pub struct Refused {
-    pub entry: usize,
-    pub number: u64,
-}
-
 /// What the messages of a header show.
 #[derive(Default)]
 pub struct Found {
-    /// Whether compact data or chunks are met, before anything at which the port stops or may read
-    /// otherwise.
-    pub storage: Option<Met>,
-    /// The first of these that has no reading, by the tool's own.
-    pub refused: Option<Refused>,
-    /// The chunks of all that have one.
-    chunks: usize,
     /// Of its attributes.
     pub outside: Option<Outside>,
     /// Whether the kind of a null dataspace is read, and where; its sizes may be refused.
@@ -142,21 +126,6 @@ impl Found {
         match is_attribute {
             true => self.outside = self.outside.or(scan.outside),
             false => self.type_too_deep |= scan.outside.is_some(),
-        }
-    }
-
-    /// Takes the layout of an entry, where the port comes to it.
-    fn take_layout(&mut self, input: &Input, entry: usize, body: usize) {
-        if self.type_too_deep || self.outside.is_some() || self.refused.is_some() {
-            return;
-        }
-        let Some(met) = storage::met(input, body) else {
-            return;
-        };
-        self.storage = self.storage.max(Some(met));
-        match storage::read(input, body, MOST_CHUNKS - self.chunks) {
-            Ok(data) => self.chunks += data.chunks().len(),
-            Err(number) => self.refused = Some(Refused { entry, number }),
         }
     }
 
@@ -204,10 +173,7 @@ pub fn header(input: &Input, entries: &[Entry]) -> Found {
         addresses,
         ..Found::default()
     };
-    for (number, entry) in entries.iter().enumerate() {
-        if entry.kind == LAYOUT {
-            found.take_layout(input, number, entry.body);
-        }
+    for entry in entries {
         let mut scan = Scan::new(input, entry.body);
         // A field that cannot be read ends the message, here as in its readers.
         let end = match entry.kind {

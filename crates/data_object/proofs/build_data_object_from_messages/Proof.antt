@@ -49,7 +49,7 @@ winning-data-layout-requires : tie.Need-winning-data-layout-requires
 winning-data-layout-requires c κs = (c.before.before.before.before.before.before.before.before.before.before.requires.0, last_within c.before.before.before.before.before.before.before.before.before.before.args.table.now _ 8 c.before.before.before.before.before.before.before.before.before.before.args.progress.rows (omega arith) c.before.before.before.before.before.before.last-rows.ensures c.before.before.before.before.before.before.before.before.before.before.requires.1)
 
 returns : tie.Need-returns
-returns c = (record { answer = refl; rows = refl; chunks = refl; ds = rw (← last_at c.before.before.before.before.before.before.before.before.before.before.before.args.table.now _ 1 c.before.before.before.before.before.before.before.before.before.before.before.args.progress.rows (omega arith) c.before.before.before.before.before.before.before.last-rows.ensures) c.before.before.before.before.winning-data-space.ensures.0; dt = rw (← last_at c.before.before.before.before.before.before.before.before.before.before.before.args.table.now _ 3 c.before.before.before.before.before.before.before.before.before.before.before.args.progress.rows (omega arith) c.before.before.before.before.before.before.before.last-rows.ensures) c.before.before.before.before.before.winning-data-type.ensures; li = rw (← last_at c.before.before.before.before.before.before.before.before.before.before.before.args.table.now _ 2 c.before.before.before.before.before.before.before.before.before.before.before.args.progress.rows (omega arith) c.before.before.before.before.before.before.before.last-rows.ensures) c.before.before.before.winning-link-info.ensures; gi = rw (← last_at c.before.before.before.before.before.before.before.before.before.before.before.args.table.now _ 10 c.before.before.before.before.before.before.before.before.before.before.before.args.progress.rows (omega arith) c.before.before.before.before.before.before.before.last-rows.ensures) c.before.winning-group-info.ensures; ai = rw (← last_at c.before.before.before.before.before.before.before.before.before.before.before.args.table.now _ 21 c.before.before.before.before.before.before.before.before.before.before.before.args.progress.rows (omega arith) c.before.before.before.before.before.before.before.last-rows.ensures) c.before.before.winning-attribute-info.ensures; layout = rw (← last_at c.before.before.before.before.before.before.before.before.before.before.before.args.table.now _ 8 c.before.before.before.before.before.before.before.before.before.before.before.args.progress.rows (omega arith) c.before.before.before.before.before.before.before.last-rows.ensures) c.winning-data-layout.ensures }, c.before.before.before.before.winning-data-space.ensures.1)
+returns c = (record { answer = refl; rows = refl; ds = rw (← last_at c.before.before.before.before.before.before.before.before.before.before.before.args.table.now _ 1 c.before.before.before.before.before.before.before.before.before.before.before.args.progress.rows (omega arith) c.before.before.before.before.before.before.before.last-rows.ensures) c.before.before.before.before.winning-data-space.ensures.0; dt = rw (← last_at c.before.before.before.before.before.before.before.before.before.before.before.args.table.now _ 3 c.before.before.before.before.before.before.before.before.before.before.before.args.progress.rows (omega arith) c.before.before.before.before.before.before.before.last-rows.ensures) c.before.before.before.before.before.winning-data-type.ensures; li = rw (← last_at c.before.before.before.before.before.before.before.before.before.before.before.args.table.now _ 2 c.before.before.before.before.before.before.before.before.before.before.before.args.progress.rows (omega arith) c.before.before.before.before.before.before.before.last-rows.ensures) c.before.before.before.winning-link-info.ensures; gi = rw (← last_at c.before.before.before.before.before.before.before.before.before.before.before.args.table.now _ 10 c.before.before.before.before.before.before.before.before.before.before.before.args.progress.rows (omega arith) c.before.before.before.before.before.before.before.last-rows.ensures) c.before.winning-group-info.ensures; ai = rw (← last_at c.before.before.before.before.before.before.before.before.before.before.before.args.table.now _ 21 c.before.before.before.before.before.before.before.before.before.before.before.args.progress.rows (omega arith) c.before.before.before.before.before.before.before.last-rows.ensures) c.before.before.winning-attribute-info.ensures; layout = rw (← last_at c.before.before.before.before.before.before.before.before.before.before.before.args.table.now _ 8 c.before.before.before.before.before.before.before.before.before.before.before.args.progress.rows (omega arith) c.before.before.before.before.before.before.before.last-rows.ensures) c.winning-data-layout.ensures }, c.before.before.before.before.winning-data-space.ensures.1)
 
 pub build-data-object-from-messages-spec : {M : Type 1} → statement M
 build-data-object-from-messages-spec =

@@ -24,7 +24,7 @@ default-requires-6 : tie.Need-default-requires-6
 default-requires-6 c κs = search rules
 
 returns : tie.Need-returns
-returns c = (record { answer = refl; rows = refl; chunks = refl; records = wins≡ c.before.before.before.before.default2.ensures.0 c.before.before.before.before.before.default.ensures c.before.before.before.default3.ensures c.before.default5.ensures c.before.before.default4.ensures c.default6.ensures }, c.before.before.before.before.default2.ensures.1)
+returns c = (record { answer = refl; rows = refl; records = wins≡ c.before.before.before.before.default2.ensures.0 c.before.before.before.before.before.default.ensures c.before.before.before.default3.ensures c.before.default5.ensures c.before.before.default4.ensures c.default6.ensures }, c.before.before.before.before.default2.ensures.1)
 
 pub rejected-spec : {M : Type 1} → statement M
 rejected-spec =

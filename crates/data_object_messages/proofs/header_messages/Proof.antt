@@ -1,7 +1,8 @@
+-- The definition reads the header's fields and then walks its messages, and so do the two calls.
+use mathlib.Core.Path.{◌∙◌}
+use native.Mathlib.Omega.{arith}
 use Rattle.ohdr_closing.specs.Answers.{limits_of}
 use Rattle.data_object_messages.specs.Laws.{fields_refused, fields_read, fields_bound}
-use native.Mathlib.Omega.{arith}
-use mathlib.Core.Path.{◌∙◌}
 use borrow.Author.Rules.{rules}
 use Rattle.data_object_messages.proofs.header_messages.Statement.{statement}
 use Rattle.data_object_messages.proofs.header_messages.Tie as tie
@@ -16,25 +17,19 @@ enum-known-fields : tie.Need-enum-known-fields
 enum-known-fields c = search rules
 
 add-end : tie.Need-overflow-add-end
-add-end c = let a = (c.before.before.before.before.before.before.before.before.args) in omega (arith, (c.before.before.before.before.before.before.before.before.requires), fields_bound a.file.now a.state a.position (limits_of a.limits) a.table.now a.chunks.now c.before.before.before.header-fields.ensures c.before.fields.given.1)
+add-end c = let a = c.before.before.before.before.before.before.args in omega (arith, c.before.before.before.before.before.before.requires, fields_bound a.file.now a.state a.position (limits_of a.limits) a.table.now c.before.before.before.header-fields.ensures c.before.fields.given.1)
 
 collect-all-messages-requires : tie.Need-collect-all-messages-requires
-collect-all-messages-requires c κs = let a = (c.before.before.before.before.before.before.before.before.before.before.before.args) in let b = fields_bound a.file.now a.state a.position (limits_of a.limits) a.table.now a.chunks.now c.before.before.before.before.before.before.header-fields.ensures c.before.before.before.before.fields.given.1 in (c.before.before.before.before.before.before.before.before.before.before.before.requires.0, c.before.before.before.before.before.before.before.before.before.before.before.requires.2, b.1, omega (arith, b.0), c.before.before.before.before.before.before.before.before.before.before.before.requires.3)
+collect-all-messages-requires c κs = let a = c.before.before.before.before.before.before.before.args in let b = fields_bound a.file.now a.state a.position (limits_of a.limits) a.table.now c.before.before.before.before.header-fields.ensures c.before.before.fields.given.1 in (c.before.before.before.before.before.before.before.requires.0, c.before.before.before.before.before.before.before.requires.2, b.1, omega (arith, b.0))
 
 returns : tie.Need-returns
-returns c = let a = (c.before.before.before.before.before.before.before.before.args) in fields_refused a.file.now a.state a.position (limits_of a.limits) a.table.now a.chunks.now c.before.before.before.header-fields.ensures c.before.r.given.1
+returns c = let a = c.before.before.before.before.before.before.args in fields_refused a.file.now a.state a.position (limits_of a.limits) a.table.now c.before.before.before.header-fields.ensures c.before.r.given.1
 
 same_length : tie.Need-same-length
 same_length c = search rules
 
-same-length-2 : tie.Need-same-length-2
-same-length-2 c = search rules
-
-same-length-3 : tie.Need-same-length-3
-same-length-3 c = search rules
-
 returns-2 : tie.Need-returns-2
-returns-2 c = let a = (c.before.before.before.before.before.before.before.before.before.before.before.before.before.before.before.before.before.before.args) in c.before.before.before.before.before.before.collect-all-messages.ensures ∙ fields_read a.file.now a.state a.position (limits_of a.limits) a.table.now a.chunks.now c.before.before.before.before.before.before.before.before.before.before.before.before.before.header-fields.ensures c.before.before.before.before.before.before.before.before.before.before.before.fields.given.1
+returns-2 c = let a = c.before.before.before.before.before.before.before.before.before.before.args in c.before.before.collect-all-messages.ensures ∙ fields_read a.file.now a.state a.position (limits_of a.limits) a.table.now c.before.before.before.before.before.before.before.header-fields.ensures c.before.before.before.before.before.fields.given.1
 
 pub header-messages-spec : {M : Type 1} → statement M
 header-messages-spec =
@@ -47,6 +42,4 @@ header-messages-spec =
     collect-all-messages-requires
     returns
     same_length
-    same-length-2
-    same-length-3
     returns-2)

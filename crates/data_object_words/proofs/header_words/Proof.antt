@@ -13,12 +13,9 @@ put-words-requires c κs = search rules
 same_length : tie.Need-same-length
 same_length c = search rules
 
-same-length-2 : tie.Need-same-length-2
-same-length-2 c = search rules
-
 returns : tie.Need-returns
-returns c = let o = c.before.before.before.before.before.before.data-object in (record { object = o.result; decoded = o.ensures.0; words = c.put-words.ensures }, (rw c.put-words.ensures (true_words o.result (search (rules, o.type-inv.1.1.1.1.1.1.0)) o.ensures.1.0), o.ensures.1.1))
+returns c = let o = c.before.before.before.before.data-object in (record { object = o.result; decoded = o.ensures.0; words = c.put-words.ensures }, (rw c.put-words.ensures (true_words o.result (search (rules, o.type-inv.1.1.1.1.1.0)) o.ensures.1.0), o.ensures.1.1))
 
 pub header-words-spec : {M : Type 1} → statement M
 header-words-spec =
-    tie.close (tie.spec data-object-requires put-words-requires same_length same-length-2 returns)
+    tie.close (tie.spec data-object-requires put-words-requires same_length returns)

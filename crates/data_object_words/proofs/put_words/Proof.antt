@@ -1,6 +1,6 @@
--- Each call sets the words of its record, and together they set all 67, so none of the old ones stays.
-use Rattle.data_object_words.specs.Laws.{put_whole}
+-- Each call sets the words of its record, and together they set all 65, so none of the old ones stays.
 use native.Mathlib.Omega.{arith}
+use Rattle.data_object_words.specs.Laws.{put_whole}
 use borrow.Author.Rules.{rules}
 use Rattle.data_object_words.proofs.put_words.Statement.{statement}
 use Rattle.data_object_words.proofs.put_words.Tie as tie
@@ -29,9 +29,6 @@ put-attribute-info-requires c κs = search rules
 put-data-layout-requires : tie.Need-put-data-layout-requires
 put-data-layout-requires c κs = search rules
 
-element-write-words-2 : tie.Need-element-write-words-2
-element-write-words-2 c = search rules
-
 returns : tie.Need-returns
 returns c = rw (c.put-data-layout.ensures, c.before.before.put-attribute-info.ensures, c.before.before.before.before.put-group-info.ensures, c.before.before.before.before.before.before.put-link-info.ensures, c.before.before.before.before.before.before.before.before.put-data-type.ensures, c.before.before.before.before.before.before.before.before.before.before.put-data-space.ensures, c.before.before.before.before.before.before.before.before.before.before.before.before.put-answer.ensures) (put_whole c.before.before.before.before.before.before.before.before.before.before.before.before.before.before.args.object c.before.before.before.before.before.before.before.before.before.before.before.before.before.before.args.words.now (omega arith))
 
@@ -47,5 +44,4 @@ put-words-spec =
     put-group-info-requires
     put-attribute-info-requires
     put-data-layout-requires
-    element-write-words-2
     returns)

@@ -4,26 +4,33 @@ use Rattle.ohdr_closing.specs.Taking.{stored, counted, no_row}
 use Rattle.ohdr_closing.proofs.take_row.Statement.{statement}
 use Rattle.ohdr_closing.proofs.take_row.Tie as tie
 
+-- src/lib.rt:67:17
 add-begun : tie.Need-overflow-add-begun
 add-begun c = search rules
 
+-- src/lib.rt:70:15
 add-t9 : tie.Need-overflow-add-t9
 add-t9 c = search rules
 
+-- src/lib.rt:74:9
 put-row-requires : tie.Need-put-row-requires
 put-row-requires c κs = search rules
 
+-- src/lib.rt:75:9
 same_length : tie.Need-same-length
 same_length c = search rules
 
+-- src/lib.rt:75:9
 returns : tie.Need-returns
-returns c = λ d. let a = c.before.before.before.before.before.before.before.before.args in stored a.limits a.from a.row a.next a.table.now d _ c.before.before.before.before.if1.true c.before.before.put-row.ensures
+returns c = let a = c.before.before.before.before.before.before.before.before.args in stored a.limits a.from a.row a.next a.table.now _ c.before.before.before.before.if1.true c.before.before.put-row.ensures
 
+-- src/lib.rt:78:9
 returns-2 : tie.Need-returns-2
-returns-2 c = λ d. let a = c.before.before.before.before.before.args in counted a.limits a.from a.row a.next a.table.now d c.before.before.before.before.before.requires.0 c.if2.true
+returns-2 c = let a = c.before.before.before.before.before.args in counted a.limits a.from a.row a.next a.table.now c.before.before.before.before.before.requires.0 c.if2.true
 
+-- src/lib.rt:62:1
 returns-3 : tie.Need-returns-3
-returns-3 c = λ d. let a = c.before.before.before.before.before.args in no_row a.limits a.from a.row a.next a.table.now d c.before.if1.false c.if2.false
+returns-3 c = let a = c.before.before.before.before.before.args in no_row a.limits a.from a.row a.next a.table.now c.before.if1.false c.if2.false
 
 pub take-row-spec : {M : Type 1} → statement M
 take-row-spec =

@@ -1,5 +1,5 @@
+-- The prefix is one step of the format, and its type chooses which call reads the rest.
 use Rattle.ohdr_entry.specs.Entries.{entry}
-use Rattle.chunk_row.specs.Lists.{lists_of}
 use Rattle.format.specs.Steps.{read_bind, read_here}
 use borrow.Author.Tests.{eq-eqb, ne_eqb}
 use borrow.Author.Rules.{rules}
@@ -27,17 +27,11 @@ returns c = rw (read_bind, ← c.before.before.before.entry-prefix.ensures, c.be
 
 returns-2 : tie.Need-returns-2
 unfolding entry
-returns-2 c = rw (read_bind, ← c.before.before.before.before.before.before.entry-prefix.ensures, c.before.before.before.before.prefix.given.1, read_here, eq-eqb _ _ c.before.if1.true) (c.entry-continuation.ensures (lists_of c.before.before.before.before.before.before.before.before.before.before.args.chunks.now c.before.before.before.before.before.before.before.before.before.before.args.counts.now))
-
-same_length : tie.Need-same-length
-same_length c = search rules
-
-same-length-2 : tie.Need-same-length-2
-same-length-2 c = search rules
+returns-2 c = rw (read_bind, ← c.before.before.before.before.before.before.entry-prefix.ensures, c.before.before.before.before.prefix.given.1, read_here, eq-eqb _ _ c.before.if1.true) c.entry-continuation.ensures
 
 returns-3 : tie.Need-returns-3
 unfolding entry
-returns-3 c = rw (read_bind, ← c.before.before.before.before.before.before.before.before.before.before.before.before.entry-prefix.ensures, c.before.before.before.before.before.before.before.before.before.before.prefix.given.1, read_here, ne_eqb _ _ c.before.before.before.before.before.before.before.if1.false) c.before.before.before.before.entry-message.ensures
+returns-3 c = rw (read_bind, ← c.before.before.before.before.before.before.entry-prefix.ensures, c.before.before.before.before.prefix.given.1, read_here, ne_eqb _ _ c.before.if1.false) c.entry-message.ensures
 
 pub entry-alone-spec : {M : Type 1} → statement M
 entry-alone-spec =
@@ -50,6 +44,4 @@ entry-alone-spec =
     entry-message-requires
     returns
     returns-2
-    same_length
-    same-length-2
     returns-3)

@@ -1,9 +1,10 @@
-use mathlib.Core.Path.{sym, ◌∙◌, ap}
-use Rattle.format.specs.Standing.{read_forward}
-use Rattle.format.specs.Steps.{read_bind, read_done}
-use Rattle.ohdr_entry.specs.Continuations.{continuation_out}
-use Rattle.ohdr_entry.specs.Entries.{continuation_held}
+-- The continuation and the rest of the size are each one step of the format.
 use Rattle.ohdr_entry.specs.Facts.{seen_closed}
+use Rattle.ohdr_entry.specs.Entries.{continuation_held}
+use Rattle.ohdr_entry.specs.Continuations.{continuation_out}
+use Rattle.format.specs.Steps.{read_bind, read_done}
+use Rattle.format.specs.Standing.{read_forward}
+use mathlib.Core.Path.{sym, ◌∙◌, ap}
 use borrow.Author.Rules.{rules}
 use Rattle.ohdr_entry.proofs.entry_continuation.Statement.{statement}
 use Rattle.ohdr_entry.proofs.entry_continuation.Tie as tie
@@ -28,15 +29,15 @@ enum_told c = search rules
 
 returns : tie.Need-returns
 unfolding continuation_held
-returns c = λ t. rw (seen_closed, read_bind, ← c.before.before.before.before.before.before.message-continuation.ensures, c.before.before.before.before.continuation.given.1, read_done, ← c.before.before.close-entry.ensures, c.enum_told.given.1)
+returns c = rw (seen_closed, read_bind, ← c.before.before.before.before.before.before.message-continuation.ensures, c.before.before.before.before.continuation.given.1, read_done, ← c.before.before.close-entry.ensures, c.enum_told.given.1)
 
 returns-2 : tie.Need-returns-2
 unfolding continuation_held
-returns-2 c = λ t. rw (seen_closed, read_bind, ← c.before.before.before.message-continuation.ensures, c.before.r.given.1)
+returns-2 c = rw (seen_closed, read_bind, ← c.before.before.before.message-continuation.ensures, c.before.r.given.1)
 
 returns-3 : tie.Need-returns-3
 unfolding continuation_held
-returns-3 c = λ t. rw (seen_closed, read_bind, ← c.before.before.before.before.before.before.before.message-continuation.ensures, c.before.before.before.before.before.continuation.given.1, read_done, ← c.before.before.before.close-entry.ensures, c.before.next.given.1)
+returns-3 c = rw (seen_closed, read_bind, ← c.before.before.before.before.before.before.before.message-continuation.ensures, c.before.before.before.before.before.continuation.given.1, read_done, ← c.before.before.before.close-entry.ensures, c.before.next.given.1)
 
 pub entry-continuation-spec : {M : Type 1} → statement M
 entry-continuation-spec =

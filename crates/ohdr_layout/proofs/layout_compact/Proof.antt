@@ -1,5 +1,6 @@
-use Rattle.format.specs.Steps.{read_number, read_here, read_bind, read_done}
+-- The size is one step of the format, and so are the bytes passed over.
 use Rattle.ohdr_layout.specs.DataLayouts.{compact}
+use Rattle.format.specs.Steps.{read_number, read_skip, read_done}
 use borrow.Author.Rules.{rules}
 use Rattle.ohdr_layout.proofs.layout_compact.Statement.{statement}
 use Rattle.ohdr_layout.proofs.layout_compact.Tie as tie
@@ -17,11 +18,11 @@ returns : tie.Need-returns
 unfolding compact
 returns c = rw (read_number, ← c.before.before.le-u16.ensures, c.enum_told.given.1)
 
-cast-size : tie.Need-overflow-cast-size
-cast-size c = search rules
+cast-take : tie.Need-overflow-cast-take
+cast-take c = search rules
 
-data-at-requires : tie.Need-data-at-requires
-data-at-requires c κs = search rules
+take-requires : tie.Need-take-requires
+take-requires c κs = search rules
 
 enum-known-next : tie.Need-enum-known-next
 enum-known-next c = search rules
@@ -31,14 +32,11 @@ enum-told-2 c = search rules
 
 returns-2 : tie.Need-returns-2
 unfolding compact
-returns-2 c = rw (read_number, ← c.before.before.before.before.before.before.le-u16.ensures, c.before.before.before.before.size.given.1, read_here, read_bind, ← c.before.before.data-at.ensures, c.enum-told2.given.1)
-
-part-of-requires : tie.Need-part-of-requires
-part-of-requires c κs = search rules
+returns-2 c = rw (read_number, ← c.before.before.before.before.before.before.le-u16.ensures, c.before.before.before.before.size.given.1, read_skip, ← c.before.before.take.ensures, c.enum-told2.given.1)
 
 returns-3 : tie.Need-returns-3
 unfolding compact
-returns-3 c = rw (read_number, ← c.before.before.before.before.before.before.before.before.le-u16.ensures, c.before.before.before.before.before.before.size.given.1, read_here, read_bind, ← c.before.before.before.before.data-at.ensures, c.before.before.next.given.1, read_done, c.part_of.ensures)
+returns-3 c = rw (read_number, ← c.before.before.before.before.before.before.before.le-u16.ensures, c.before.before.before.before.before.size.given.1, read_skip, ← c.before.before.before.take.ensures, c.before.next.given.1, read_done)
 
 pub layout-compact-spec : {M : Type 1} → statement M
 layout-compact-spec =
@@ -48,10 +46,9 @@ layout-compact-spec =
     enum-known-size
     enum_told
     returns
-    cast-size
-    data-at-requires
+    cast-take
+    take-requires
     enum-known-next
     enum-told-2
     returns-2
-    part-of-requires
     returns-3)

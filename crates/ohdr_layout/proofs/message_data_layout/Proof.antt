@@ -1,6 +1,7 @@
-use borrow.Author.Tests.{eq-eqb, ne_eqb}
-use Rattle.format.specs.Steps.{read_number, read_refuse}
+-- Version and class are steps of the format, and the class chooses which call reads the rest.
 use Rattle.ohdr_layout.specs.DataLayouts.{data_layout}
+use Rattle.format.specs.Steps.{read_number, read_refuse}
+use borrow.Author.Tests.{eq-eqb, ne_eqb}
 use borrow.Author.Rules.{rules}
 use Rattle.ohdr_layout.proofs.message_data_layout.Statement.{statement}
 use Rattle.ohdr_layout.proofs.message_data_layout.Tie as tie
@@ -41,9 +42,6 @@ layout-compact-requires c κs = search rules
 layout-contiguous-requires : tie.Need-layout-contiguous-requires
 layout-contiguous-requires c κs = search rules
 
-layout-chunked-requires : tie.Need-layout-chunked-requires
-layout-chunked-requires c κs = search rules
-
 returns-4 : tie.Need-returns-4
 unfolding data_layout
 returns-4 c = rw (read_number, ← c.before.before.before.before.before.before.before.before.before.before.le-u8.ensures, c.before.before.before.before.before.before.before.before.version.given.1, eq-eqb _ _ c.before.before.before.before.before.before.if1.false, read_number, ← c.before.before.before.before.before.le-u82.ensures, c.before.before.before.class.given.1, c.before.match3.keys1) c.layout-compact.ensures
@@ -54,7 +52,7 @@ returns-5 c = rw (read_number, ← c.before.before.before.before.before.before.b
 
 returns-6 : tie.Need-returns-6
 unfolding data_layout
-returns-6 c = rw (read_number, ← c.before.before.before.before.before.before.before.before.before.before.le-u8.ensures, c.before.before.before.before.before.before.before.before.version.given.1, eq-eqb _ _ c.before.before.before.before.before.before.if1.false, read_number, ← c.before.before.before.before.before.le-u82.ensures, c.before.before.before.class.given.1, c.before.match3.keys3) c.layout-chunked.ensures
+returns-6 c = rw (read_number, ← c.before.before.before.before.before.before.before.before.before.le-u8.ensures, c.before.before.before.before.before.before.before.version.given.1, eq-eqb _ _ c.before.before.before.before.before.if1.false, read_number, ← c.before.before.before.before.le-u82.ensures, c.before.before.class.given.1, c.match3.keys3, read_refuse)
 
 returns-7 : tie.Need-returns-7
 unfolding data_layout
@@ -75,7 +73,6 @@ message-data-layout-spec =
     returns-3
     layout-compact-requires
     layout-contiguous-requires
-    layout-chunked-requires
     returns-4
     returns-5
     returns-6

@@ -13,9 +13,6 @@ cast-header-words-2 c = search rules
 slice-aggregate-header-words : tie.Need-slice-aggregate-header-words
 slice-aggregate-header-words c = search rules
 
-slice-aggregate-header-words-2 : tie.Need-slice-aggregate-header-words-2
-slice-aggregate-header-words-2 c = search rules
-
 header-words-requires : tie.Need-header-words-requires
 header-words-requires c κs = search rules
 
@@ -23,13 +20,13 @@ slice-aggregate-expect-text : tie.Need-slice-aggregate-expect-text
 slice-aggregate-expect-text c = search rules
 
 expect-text-requires : tie.Need-expect-text-requires
-expect-text-requires c κs = let h = few_rows _ c.before.before.before.before.before.before.before.before.before.before.before.before.args.lead _ _ _ c.before.before.before.before.header-words.ensures.0 in search rules
+expect-text-requires c κs = let h = few_rows _ c.before.before.before.before.before.before.before.before.before.before.args.lead _ _ c.before.before.before.header-words.ensures.0 in search rules
 
 ends-requires : tie.Need-ends-requires
 ends-requires c κs = search rules
 
 returns : tie.Need-returns
-returns c = answered _ c.before.before.before.before.before.before.before.before.before.before.before.before.before.before.args.lead _ _ _ c.before.before.before.before.before.before.header-words.ensures.0 _ _ _ _ c.before.expect-text.ensures c.ends.ensures
+returns c = answered _ c.before.before.before.before.before.before.before.before.before.before.before.before.args.lead _ _ c.before.before.before.before.before.header-words.ensures.0 _ _ _ _ c.before.expect-text.ensures c.ends.ensures
 
 pub replays-spec : {M : Type 1} → statement M
 replays-spec =
@@ -38,7 +35,6 @@ replays-spec =
     cast-header-words
     cast-header-words-2
     slice-aggregate-header-words
-    slice-aggregate-header-words-2
     header-words-requires
     slice-aggregate-expect-text
     expect-text-requires

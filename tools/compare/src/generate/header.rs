@@ -5,7 +5,6 @@ use super::maker::{Maker, UNDEFINED_RATE};
 use super::piece::{Piece, Place};
 use crate::address::all_ones;
 use crate::input::Input;
-use crate::scan::DATA_SPACE;
 
 /// Which blocks each chunk opens. Chunk 0 is the header's own, chunk n is block n.
 type Plan = Vec<Vec<usize>>;
@@ -42,11 +41,6 @@ impl Maker<'_> {
             file.append(block);
         }
         self.data(&mut file);
-        for node in std::mem::take(&mut self.nodes) {
-            let gap = self.random.pick(&[0, 0, 1, 3]);
-            file.bytes.extend(self.bytes(gap));
-            file.append(&node);
-        }
         self.around(file.resolve(), position)
     }
 
@@ -217,11 +211,6 @@ impl Maker<'_> {
         if self.crowd > 0 {
             let small = self.small(number, plan.len(), orders);
             chunk.append(&small);
-        }
-        if self.storage && number == 0 {
-            let space = self.small_space();
-            let entry = self.entry(DATA_SPACE.into(), &space, orders);
-            chunk.append(&entry);
         }
         for opened in self.contents(&plan[number], most) {
             let entry = match opened {

@@ -1,11 +1,10 @@
-//! Inputs at the limits that only large files, or long lists of chunks, reach.
+//! Inputs at the limits that only large files reach.
 
 use crate::address::LAYOUT;
 use crate::closing::make_true;
 use crate::input::{Input, put};
 use crate::random::Random;
 use crate::rust::CONTINUATION;
-use crate::scan::DATA_SPACE;
 
 const LARGEST_CHUNK: usize = 16_777_216;
 /// The bytes of numbers that an attribute passes at most.
@@ -44,7 +43,6 @@ fn made() -> Vec<Input> {
     for name in [65_527, 65_528, 65_529] {
         inputs.push(one_message(11, 24, &named_filter(name)));
     }
-    inputs.extend(LONG.map(long));
     for kind in FAR_KINDS {
         for address in FAR {
             inputs.extend(FAR_ENDS.map(|end| far(kind, address, [2, 2], end)));
@@ -87,96 +85,6 @@ fn far(kind: u8, address: u64, widths: [u8; 2], end_of_file: u64) -> Input {
         length_width: widths[1],
         end_of_file,
         ..input
-    }
-}
-
-/// A list of chunks: none, or as many as ways lead to a leaf when each node leads twice to the one below
-/// on so many levels, and perhaps one more.
-#[derive(Clone, Copy)]
-enum Long {
-    None,
-    Doubled(u8),
-    OneMore(u8),
-}
-
-/// Lists of one header: as many chunks as it may have, and one more, in one list and in two; lists of
-/// 8,192, 4,097 and 4,096; and the longest first.
-const LONG: [&[Long]; 8] = [
-    &[Long::Doubled(20)],
-    &[Long::OneMore(20)],
-    &[Long::Doubled(19), Long::Doubled(19)],
-    &[Long::Doubled(19), Long::OneMore(19)],
-    &[Long::Doubled(13), Long::OneMore(1)],
-    &[Long::OneMore(12)],
-    &[Long::Doubled(12), Long::None],
-    &[Long::None, Long::Doubled(0)],
-];
-/// Version 2 and no sizes: the Rust asks for a dataspace.
-const SPACE: &[u8] = &[2, 0, 0, 0];
-const DIMENSIONALITY: u8 = 1;
-/// Version, class, dimensionality, address and a size.
-const CHUNKED: usize = 3 + 8 + 4;
-
-/// A header of chunked layouts with such lists, and their trees behind its sum.
-fn long(lists: &[Long]) -> Input {
-    let layouts = (4 + CHUNKED) * lists.len();
-    let mut file = header(4 + SPACE.len() + layouts);
-    entry(&mut file, DATA_SPACE, SPACE.len());
-    file.extend(SPACE);
-    let mut trees = Trees {
-        at: file.len() + layouts + 4,
-        bytes: Vec::new(),
-    };
-    for list in lists {
-        entry(&mut file, LAYOUT, CHUNKED);
-        file.extend([3, 2, DIMENSIONALITY]);
-        put(&mut file, trees.root(*list), 8);
-        put(&mut file, 1, 4);
-    }
-    file.resize(file.len() + 4, 0);
-    file.extend(trees.bytes);
-    with_file(file)
-}
-
-/// Nodes that stand at a place.
-struct Trees {
-    at: usize,
-    bytes: Vec<u8>,
-}
-
-impl Trees {
-    /// The nodes of a list; answers where the root stands.
-    fn root(&mut self, list: Long) -> u64 {
-        let (levels, one_more) = match list {
-            Long::None => return self.node(0, &[]),
-            Long::Doubled(levels) => (levels, false),
-            Long::OneMore(levels) => (levels, true),
-        };
-        let mut doubled = self.node(0, &[1]);
-        let mut single = doubled;
-        for level in 1..=levels {
-            let more = one_more && level == levels;
-            let children = [doubled, doubled, single];
-            doubled = self.node(level, &children[..if more { 3 } else { 2 }]);
-            single = self.node(level, &[single]);
-        }
-        doubled
-    }
-
-    /// A node with its children or chunks; answers where it stands.
-    fn node(&mut self, level: u8, addresses: &[u64]) -> u64 {
-        const KEY: [u8; 4 + 4 + 8 * DIMENSIONALITY as usize] = [7; 16];
-        let at = self.at + self.bytes.len();
-        self.bytes.extend(b"TREE\x01");
-        self.bytes.push(level);
-        put(&mut self.bytes, addresses.len() as u64, 2);
-        self.bytes.extend([255; 16]);
-        for address in addresses {
-            self.bytes.extend(KEY);
-            put(&mut self.bytes, *address, 8);
-        }
-        self.bytes.extend(KEY);
-        at as u64
     }
 }
 

@@ -1,6 +1,5 @@
 //! What is common to the making of all messages: widths, random choices and faults.
 
-use super::piece::Piece;
 use crate::address::all_ones;
 use crate::random::Random;
 
@@ -17,10 +16,6 @@ pub struct Maker<'r> {
     pub numeric: bool,
     /// Whether most messages have a dataspace; and how often one is null, in thousandths.
     pub spaces: Option<u64>,
-    /// Whether most messages are layouts, with compact data or chunks.
-    pub storage: bool,
-    /// The nodes of chunk trees, which stand behind the header and its blocks.
-    pub nodes: Vec<Piece>,
     /// The smallest messages that a header has beside the others.
     pub crowd: u64,
     /// Faults that may still be made, and how often, in thousandths of the chances.
@@ -63,8 +58,6 @@ impl<'r> Maker<'r> {
             early: false,
             numeric: false,
             spaces: None,
-            storage: false,
-            nodes: Vec::new(),
             crowd: 0,
             faults,
             rate,
@@ -90,14 +83,6 @@ impl<'r> Maker<'r> {
         let rate = self.random.pick(&[0, 0, 200, 600]);
         Maker {
             spaces: Some(rate),
-            ..self
-        }
-    }
-
-    /// The same maker, of layouts.
-    pub fn of_storage(self) -> Maker<'r> {
-        Maker {
-            storage: true,
             ..self
         }
     }

@@ -2,7 +2,7 @@
 
 use super::maker::{Maker, UNDEFINED_RATE};
 use super::piece::{Piece, Place};
-use crate::address::{LAYOUT, all_ones};
+use crate::address::all_ones;
 use crate::scan::{ATTRIBUTE, DATA_SPACE};
 
 /// How often a message of a numeric header is an attribute for that alone, in thousandths.
@@ -18,9 +18,6 @@ impl Maker<'_> {
         const UNKNOWN: &[u64] = &[6, 7, 9, 13, 14, 15, 17, 18, 19, 20, 22, 23, 255];
         if self.numeric && self.random.rarely(NUMERIC) {
             return ATTRIBUTE.into();
-        }
-        if self.has_storage() {
-            return LAYOUT.into();
         }
         if self.has_space() {
             return self.random.pick(&[DATA_SPACE, ATTRIBUTE, ATTRIBUTE]).into();
@@ -105,12 +102,7 @@ impl Maker<'_> {
 
     /// A size and that many bytes.
     fn sized(&mut self, piece: &mut Piece, width: u8) {
-        self.sized_of(piece, width, &[0, 1, 2, 4, 8, 13]);
-    }
-
-    /// The same of some sizes.
-    pub fn sized_of(&mut self, piece: &mut Piece, width: u8, counts: &[u64]) {
-        let count = self.random.pick(counts);
+        let count = self.random.pick(&[0, 1, 2, 4, 8, 13]);
         let told = self.choose(&[count], OVERFULL);
         piece.put(told, width);
         let value = self.bytes(count as usize);
@@ -154,13 +146,12 @@ impl Maker<'_> {
     fn layout(&mut self) -> Piece {
         let mut piece = Piece::default();
         let version = self.choose(&[3], &[0, 1, 2, 4, 255]);
-        let good = self.layout_class();
-        let class = self.choose(&[good], &[3, 4, 255]);
+        let class = self.choose(&[0, 1, 1, 1], &[3, 4, 255]);
+        let chunked = self.random.rarely(10);
         piece.put(version, 1);
-        piece.put(class, 1);
+        piece.put(if chunked { 2 } else { class }, 1);
         match class {
-            0 => self.compact(&mut piece),
-            2 => self.chunked(&mut piece),
+            0 => self.sized(&mut piece, 2),
             _ => self.contiguous(&mut piece),
         }
         piece
@@ -191,7 +182,7 @@ impl Maker<'_> {
     }
 
     /// 0, undefined or one below it, at the end of the file or after it.
-    pub fn address_without_data(&mut self, piece: &mut Piece) {
+    fn address_without_data(&mut self, piece: &mut Piece) {
         let width = self.offset_width;
         match self.random.below(9) {
             0 | 1 => piece.put(0, width),

@@ -12,7 +12,6 @@ pub mod numeric;
 mod piece;
 pub mod plain;
 pub mod spaces;
-pub mod storage;
 mod sums;
 mod types;
 

@@ -10,8 +10,6 @@ pub enum Place {
     BlockLength(usize),
     /// Where the bytes begin that layouts point to.
     Data,
-    /// Where a node of a chunk tree begins.
-    Node(usize),
     /// The length of the file.
     End,
 }

@@ -1,6 +1,7 @@
-//! Stands in for the chunk tree, which was not published. Only chunked layouts ask for it, and those are
-//! no part of the comparison: it has no data, so that the Rust goes on behind them.
+//! Stands in for the chunk tree, which was not published. Only chunked layouts ask for it, and
+//! those are no part of the comparison: it refuses.
 use winnow::ModalResult;
+use winnow::error::{ContextError, ErrMode};
 
 use super::data_object::{DataLayout, DataSpace};
 use super::parser::Input;
@@ -10,5 +11,5 @@ pub(crate) fn tree(
     _data_space: DataSpace,
     _chunk: DataLayout,
 ) -> impl FnMut(&mut Input) -> ModalResult<Vec<u8>> {
-    |_| Ok(Vec::new())
+    |_| Err(ErrMode::Cut(ContextError::new()))
 }

@@ -10,11 +10,10 @@ use super::hdf::data_object::{self, DataFormat, DataObject, DataObjectFlags};
 use super::hdf::ohdr_message::{HeaderMessage, HeaderMessageKind, collect_all_messages};
 use super::hdf::parser::{Input as Stream, State, parse};
 use super::hdf::super_block::{SuperBlock, super_block};
-use crate::address::{self, Address, LAYOUT};
+use crate::address::{self, Address};
 use crate::answer::{self, Dimensions, Elements, Format, Header, Records, Row};
 use crate::input::Input;
 use crate::rust::{Answer, CONTINUATION, Entry, answer_of, silence};
-use crate::storage::{self, Met};
 
 /// The Rust's answer. The thread needs a stack of `STACK` bytes.
 pub fn rust_answer(input: &Input) -> Answer {
@@ -123,10 +122,7 @@ fn messages(input: &Input, flags: DataObjectFlags, next: usize) -> Vec<HeaderMes
 impl Reading {
     fn header(self, input: &Input, entries: &[Entry]) -> Header {
         let with_rows = entries.iter().filter(|entry| entry.kind != CONTINUATION);
-        let messages = self.messages.iter().zip(with_rows);
-        let rows: Vec<Row> = messages
-            .map(|(message, entry)| row(input, message, entry))
-            .collect();
+        let rows: Vec<Row> = self.messages.iter().zip(with_rows).map(row).collect();
         assert_eq!(rows.len(), self.messages.len(), "a line for each message");
         let object = self.object;
         let width = input.offset_width;
@@ -142,13 +138,12 @@ impl Reading {
                 attribute_info: attribute_info(&object.ai, width),
                 layout_address: address::of_layout(input, entries),
             },
-            data: data(input, entries, object.data),
-            stored: None,
+            data: object.data,
         }
     }
 }
 
-fn row(input: &Input, message: &HeaderMessage, entry: &Entry) -> Row {
+fn row((message, entry): (&HeaderMessage, &Entry)) -> Row {
     let (name, part) = match &message.kind {
         HeaderMessageKind::Attribute(Some(attribute)) => {
             let value = attribute
@@ -157,7 +152,7 @@ fn row(input: &Input, message: &HeaderMessage, entry: &Entry) -> Row {
                 .map(|value| value.clone().into_bytes());
             (Some(attribute.name.clone().into_bytes()), value)
         }
-        HeaderMessageKind::DataLayout(data) => (None, part(input, entry.body, data)),
+        HeaderMessageKind::DataLayout(data) => (None, Some(data.clone())),
         _ => (None, None),
     };
     Row {
@@ -169,25 +164,6 @@ fn row(input: &Input, message: &HeaderMessage, entry: &Entry) -> Row {
         part,
         part_position: None,
         number: None,
-    }
-}
-
-/// The data of the last layout, which wins.
-fn data(input: &Input, entries: &[Entry], data: Vec<u8>) -> Vec<u8> {
-    let layout = entries.iter().rev().find(|entry| entry.kind == LAYOUT);
-    match layout {
-        Some(entry) => part(input, entry.body, &data).unwrap_or_default(),
-        None => data,
-    }
-}
-
-/// The part of a layout's row. Of compact data, which the Rust does not hand out, it is the tool's own;
-/// chunks have none.
-fn part(input: &Input, body: usize, data: &[u8]) -> Option<Vec<u8>> {
-    match storage::met(input, body) {
-        Some(Met::Compact) => storage::compact_bytes(input, body).map(<[u8]>::to_vec),
-        Some(Met::Chunked) => None,
-        None => Some(data.to_vec()),
     }
 }
 

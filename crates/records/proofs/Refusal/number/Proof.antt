@@ -90,12 +90,6 @@ enum-told-28 c = search rules
 enum-told-29 : tie.Need-enum-told-29
 enum-told-29 c = search rules
 
-enum-told-30 : tie.Need-enum-told-30
-enum-told-30 c = search rules
-
-enum-told-31 : tie.Need-enum-told-31
-enum-told-31 c = search rules
-
 returns : tie.Need-returns
 returns c = rw c.enum_told.given.1
 
@@ -183,12 +177,6 @@ returns-28 c = rw c.enum-told28.given.1
 returns-29 : tie.Need-returns-29
 returns-29 c = rw c.enum-told29.given.1
 
-returns-30 : tie.Need-returns-30
-returns-30 c = rw c.enum-told30.given.1
-
-returns-31 : tie.Need-returns-31
-returns-31 c = rw c.enum-told31.given.1
-
 pub number-spec : {M : Type 1} → statement M
 number-spec =
     tie.close
@@ -222,8 +210,6 @@ number-spec =
     enum-told-27
     enum-told-28
     enum-told-29
-    enum-told-30
-    enum-told-31
     returns
     returns-2
     returns-3
@@ -252,6 +238,4 @@ number-spec =
     returns-26
     returns-27
     returns-28
-    returns-29
-    returns-30
-    returns-31)
+    returns-29)

@@ -16,7 +16,6 @@ use crate::pair_breakage::PAIRS;
 use crate::plain_address_breakage::PLAIN_ADDRESSES;
 use crate::plain_breakage::PLAIN;
 use crate::plain_pair_breakage::PLAIN_PAIRS;
-use crate::storage_breakage::STORAGE;
 use crate::sum_breakage::SUMS;
 
 pub struct Breakage {
@@ -99,10 +98,6 @@ const HEADER: &[Breakage] = &[
     breakage("refusal-of-ranges", |o| accept(o, 19)),
     breakage("refusal-of-levels", |o| accept(o, 21)),
     breakage("always-outside", |o| refuse_with(o, 14)),
-    breakage("14-for-refused", |o| match o {
-        Outcome::Refused(13) => Outcome::Refused(14),
-        other => other,
-    }),
     breakage("entries-outside", |o| refuse_with(o, 23)),
     Breakage {
         name: "as-the-published-rust",
@@ -114,8 +109,7 @@ const HEADER: &[Breakage] = &[
 pub fn of_headers() -> impl Iterator<Item = &'static Breakage> {
     let headers = HEADER.iter().chain(SUMS).chain(ADDRESSES);
     let spaces = ELEMENTS.iter().chain(NULLS);
-    let others = NUMBERS.iter().chain(spaces).chain(STORAGE);
-    headers.chain(others).chain(PAIRS)
+    headers.chain(NUMBERS).chain(spaces).chain(PAIRS)
 }
 
 /// All that are of plain files.

@@ -10,7 +10,6 @@ use sides::sum::{Closing, Of};
 
 use crate::elements::Elements;
 use crate::judge::{Exclusion, FalseSum, Judged, OF_CONTINUATION, Untested, Verdict};
-use crate::layouts::Layouts;
 use crate::numbers::Numbers;
 use crate::outside::Outside;
 use crate::rows::Rows;
@@ -143,7 +142,6 @@ pub struct Counts {
     numbers: Numbers,
     texts: Texts,
     elements: Elements,
-    layouts: Layouts,
     /// What accepted headers hold.
     types: BTreeMap<u64, u64>,
     forms: BTreeMap<String, u64>,
@@ -173,7 +171,6 @@ impl Counts {
         if !matches!(judged.verdict, Verdict::Panicked(_) | Verdict::Differs(_)) {
             self.tables.count(&judged.pair);
             self.count_rows(judged.rows.as_ref());
-            self.layouts.count(judged);
         }
         match &judged.verdict {
             Verdict::Accepted(header) => {
@@ -264,7 +261,6 @@ impl Counts {
         self.numbers.print(name);
         self.texts.print(name);
         self.elements.print(name);
-        self.layouts.print(name);
     }
 
     /// Prints the undefined addresses of headers that have a name.
@@ -312,7 +308,6 @@ impl Sum for Counts {
         self.numbers.add(other.numbers);
         self.texts.add(other.texts);
         self.elements.add(other.elements);
-        self.layouts.add(other.layouts);
     }
 }
 

@@ -14,16 +14,9 @@
 //! Null dataspaces stand outside too: in an attribute the published Rust takes as many bytes as their
 //! sizes say. The mended one takes none, and there too the port must answer as it does.
 //!
-//! Compact data of more than 0 bytes and chunked layouts stand outside as well. The Rust hands out no
-//! compact data, and a tree that has no data stands in for the one that was not published: so both Rusts
-//! are read with the tool's own compact data and no part of chunked layouts, and the port must answer as
-//! they do there too. Where the tool reads that a layout or its tree has to be refused, the port must
-//! refuse it with that number. Where the Rust refuses at a chunked layout, which it may do for a dataspace
-//! that is missing or large, nothing behind that layout is compared.
-//!
 //! No Rust knows the numbers of rows, tells where a text stands, or keeps the number of elements: on
 //! every input that the port accepts, inside the comparison or not, they must be what the tool reads
-//! from the bytes of the rows. So must the places of data, and the chunks.
+//! from the bytes of the rows.
 
 use std::ops::RangeInclusive;
 
@@ -34,9 +27,7 @@ use sides::input::{End, Input, get};
 use sides::pair::{Figures, Pair, Sizes};
 use sides::port::{self, PlainAnswer, Port};
 use sides::rust::{self, CONTINUATION, ENTRIES, Entry, mended, published};
-use sides::scan::{self, Found, Null, Outside, Refused};
-pub use sides::storage::OF_LAYOUT;
-use sides::storage::{self, DATA_LIMIT, Met};
+use sides::scan::{self, Found, Null, Outside};
 use sides::sum::{Closing, Of};
 
 use crate::breakage::Breakage;
@@ -44,8 +35,11 @@ use crate::rows::Rows;
 
 /// The port's number for a false sum.
 pub const CHECKSUM: u64 = 28;
-/// The port's number for a continuation.
+/// The port's numbers for a layout and for a continuation.
+pub const OF_LAYOUT: u64 = 13;
 pub const OF_CONTINUATION: u64 = 19;
+/// The first size that data of a layout may not have.
+const DATA_LIMIT: u64 = 0x1000_0000;
 
 /// Why an input is outside the comparison.
 #[derive(Clone, Copy, Debug, PartialEq, Eq, PartialOrd, Ord)]
@@ -58,8 +52,6 @@ pub enum Exclusion {
     EndOfFile,
     /// A null dataspace is read, and whether the port accepts the header.
     Null(Null, bool),
-    /// Compact data or chunks are met, and whether the port accepts the header.
-    Stored(Met, bool),
 }
 
 /// A false sum: what it closes, and what the mended Rust, which does not test it, says of the input.
@@ -103,8 +95,6 @@ pub struct Judged {
     pub end: Option<End>,
     /// The published Rust's answer, where it is not the mended one's.
     pub otherwise: Option<rust::Outcome>,
-    /// Whether nothing is compared with the Rust behind a chunked layout.
-    pub stops: bool,
 }
 
 pub struct Judge {
@@ -179,7 +169,6 @@ fn unasked(port: &port::Outcome, pair: Pair) -> Judged {
         demanded: None,
         end: None,
         otherwise: None,
-        stops: false,
     }
 }
 
@@ -242,7 +231,6 @@ impl Answers<'_> {
     fn judged(self) -> Judged {
         Judged {
             verdict: self.verdict(),
-            stops: self.found.refused.is_none() && self.stops_at_chunks(&self.found),
             pair: self.pair,
             closings: self.closings,
             found: self.found,
@@ -267,79 +255,36 @@ impl Answers<'_> {
         let before =
             (seen < self.entries.len()).then(|| scan::header(self.input, &self.entries[..seen]));
         let found = before.as_ref().unwrap_or(&self.found);
-        let seen = &self.entries[..seen];
-        let verdict = match (found.refused, found.outside) {
-            (Some(refused), _) => self.refused(refused, seen),
-            (None, Some(Outside::TypeLevel)) => Verdict::Outside(Exclusion::TypeLevel),
-            (None, Some(Outside::Elements)) => Verdict::Outside(Exclusion::Elements),
-            (None, None) if self.stops_at_chunks(found) => self.begun(),
-            (None, None) => self.compared(seen, found),
+        let verdict = match found.outside {
+            Some(Outside::TypeLevel) => Verdict::Outside(Exclusion::TypeLevel),
+            Some(Outside::Elements) => Verdict::Outside(Exclusion::Elements),
+            None => self.compared(&self.entries[..seen], found),
         };
-        self.or_outside(verdict, found.storage)
+        self.or_outside(verdict)
     }
 
     /// A verdict, or that the input stands outside the comparison all the same: for a null dataspace,
-    /// before all other reasons, for compact data or chunks, or for its end-of-file address.
-    fn or_outside(&self, verdict: Verdict, storage: Option<Met>) -> Verdict {
-        let accepts = matches!(self.port, port::Outcome::Read(_));
-        match (verdict, self.found.null, storage) {
-            (differs @ Verdict::Differs(_), ..) => differs,
-            (_, Some(place), _) => Verdict::Outside(Exclusion::Null(place, accepts)),
-            (_, None, Some(met)) => Verdict::Outside(Exclusion::Stored(met, accepts)),
-            (Verdict::Accepted(_) | Verdict::Refused(_) | Verdict::FalseSum(_), None, None)
+    /// before all other reasons, or for its end-of-file address.
+    fn or_outside(&self, verdict: Verdict) -> Verdict {
+        match (verdict, self.found.null) {
+            (differs @ Verdict::Differs(_), _) => differs,
+            (_, Some(place)) => {
+                let accepts = matches!(self.port, port::Outcome::Read(_));
+                Verdict::Outside(Exclusion::Null(place, accepts))
+            }
+            (Verdict::Accepted(_) | Verdict::Refused(_) | Verdict::FalseSum(_), None)
                 if self.input.is_above_addresses() =>
             {
                 Verdict::Outside(Exclusion::EndOfFile)
             }
-            (other, None, None) => other,
-        }
-    }
-
-    /// The verdict where the tool reads that a layout has to be refused with a number: so it must be by
-    /// check and filling, with as many rows as there are messages before it.
-    fn refused(&self, refused: Refused, seen: &[Entry]) -> Verdict {
-        let Refused { entry, number } = refused;
-        let filled = matches!(self.port, port::Outcome::Refused(ours) if ours == number);
-        let rows = self.pair.least().contains(&messages(&seen[..entry]));
-        match filled && rows && self.pair.check.refused == number {
-            true => Verdict::Refused(number),
-            false => Verdict::Differs(self.text()),
-        }
-    }
-
-    /// Whether the Rust refuses at a chunked layout, or right behind it, where the port may go on.
-    fn stops_at_chunks(&self, found: &Found) -> bool {
-        let refuses = matches!(self.mended, rust::Outcome::Refused) && self.false_sum.is_none();
-        let last = self.entries.last().filter(|last| last.kind == LAYOUT);
-        let met = last.and_then(|last| storage::met(self.input, last.body));
-        refuses && !found.type_too_deep && met == Some(Met::Chunked)
-    }
-
-    /// The verdict where the Rust has read the first messages alone: the port's rows begin with them.
-    fn begun(&self) -> Verdict {
-        let messages = self
-            .entries
-            .iter()
-            .filter(|entry| entry.kind != CONTINUATION);
-        let alike = match &self.port {
-            port::Outcome::Read(header) => messages.enumerate().all(|(at, entry)| {
-                let row = header.rows.get(at);
-                row.is_some_and(|row| {
-                    (row.kind, row.body) == (entry.kind.into(), entry.body as u64)
-                })
-            }),
-            port::Outcome::Refused(_) => true,
-        };
-        match alike {
-            true => Verdict::Outside(Exclusion::Stored(Met::Chunked, false)),
-            false => Verdict::Differs(self.text()),
+            (other, None) => other,
         }
     }
 
     /// The verdict on the port's answers and the mended Rust's, with what the port has seen.
     fn compared(&self, seen: &[Entry], found: &Found) -> Verdict {
-        let verdict = self.filled(found);
-        let agrees = self.is_checked(found) && self.is_taken(&verdict, seen);
+        let verdict = self.filled(seen, found);
+        let agrees = self.is_checked(seen, found) && self.is_taken(&verdict, seen);
         match verdict {
             Verdict::Differs(_) => verdict,
             _ if agrees => verdict,
@@ -348,9 +293,9 @@ impl Answers<'_> {
     }
 
     /// Whether the check answers as the mended Rust does.
-    fn is_checked(&self, found: &Found) -> bool {
+    fn is_checked(&self, seen: &[Entry], found: &Found) -> bool {
         match (self.pair.check.refused, &self.mended, self.false_sum) {
-            (number @ (2 | 14 | 22 | 23 | 30..=32), ..) => self.deserved(number, found),
+            (number @ (2 | 14 | 22 | 23), ..) => self.deserved(number, seen, found),
             (CHECKSUM, _, sum) => sum.is_some(),
             (.., Some(_)) => false,
             (0, rust::Outcome::Read(header), None) => self.pair.check == figures(header),
@@ -362,7 +307,7 @@ impl Answers<'_> {
     }
 
     /// Whether a header that is refused takes as many rows before that as the mended Rust has read
-    /// messages. An answer of 22 ends the comparison before the Rust stops.
+    /// messages. An answer of 14 or 22 ends the comparison before the Rust stops.
     fn is_taken(&self, verdict: &Verdict, seen: &[Entry]) -> bool {
         let taken = match verdict {
             Verdict::Refused(_) => messages_before(seen),
@@ -376,10 +321,10 @@ impl Answers<'_> {
     }
 
     /// The verdict on what the port's filling answers and the mended Rust.
-    fn filled(&self, found: &Found) -> Verdict {
+    fn filled(&self, seen: &[Entry], found: &Found) -> Verdict {
         match (&self.port, &self.mended, self.false_sum) {
-            (port::Outcome::Refused(number @ (2 | 14 | 22 | 23 | 24 | 30..=32)), ..) => {
-                if self.deserved(*number, found) {
+            (port::Outcome::Refused(number @ (2 | 14 | 22 | 23 | 24)), ..) => {
+                if self.deserved(*number, seen, found) {
                     return Verdict::Outside(Exclusion::Number(*number));
                 }
                 Verdict::Differs(self.text())
@@ -405,20 +350,18 @@ impl Answers<'_> {
 
     /// What is not as the bytes of the port's rows say, if anything.
     fn row_fault(&self) -> Option<String> {
-        let rows = self.rows.as_ref()?;
-        let longest =
-            || "the chunk rows that are needed are not those of the longest list\n".into();
-        let fault = rows.fault(&self.port);
-        fault.or_else(|| (!rows.fits(&self.pair)).then(longest))
+        self.rows.as_ref()?.fault(&self.port)
     }
 
-    /// Whether a number that ends the comparison is borne out by what the Rust read up to there. 14 is
-    /// none any more, and those of a tree are asked for, or none.
-    fn deserved(&self, number: u64, found: &Found) -> bool {
+    /// Whether a number that ends the comparison is borne out by what the Rust read up to there.
+    fn deserved(&self, number: u64, seen: &[Entry], found: &Found) -> bool {
+        let file = &self.input.file;
+        let chunked = |body: usize| file.get(body..body + 2) == Some(&[3, 2]);
         match number {
+            14 => seen.iter().any(|e| e.kind == LAYOUT && chunked(e.body)),
             22 => found.type_too_deep,
             23 => self.false_sum.is_none() && self.has_all_entries(),
-            2 => self.input.file.len() > 1 << 31,
+            2 => file.len() > 1 << 31,
             _ => false,
         }
     }
@@ -444,9 +387,6 @@ impl Answers<'_> {
         }
         if let Some(number) = self.demanded {
             text += &format!("an undefined address asks for {number}\n");
-        }
-        if let Some(Refused { entry, number }) = self.found.refused {
-            text += &format!("the layout of entry {entry} asks for {number}\n");
         }
         text + &sums_text(&self.closings, &self.input.file)
     }
@@ -507,15 +447,12 @@ pub fn pair_text(pair: &Pair) -> String {
         (None, Some(rows)) => format!("rows needed: {rows}\n"),
         (None, None) => format!("rows needed: {} to {}\n", least.start(), least.end()),
     };
-    if let Some(rows) = pair.least_chunks_known().filter(|rows| *rows > 0) {
-        text += &format!("chunk rows needed: {rows}\n");
-    }
     text
 }
 
-/// The report of a header, its numbers and its chunks.
+/// The report of a header, and its numbers.
 pub fn header_text(header: &Header) -> String {
-    text(&header.report()) + &header.numbers() + &header.chunks()
+    text(&header.report()) + &header.numbers()
 }
 
 pub fn port_text(outcome: &port::Outcome) -> String {

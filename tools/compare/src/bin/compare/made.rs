@@ -71,7 +71,7 @@ fn attribute(line: &str, version: u8) -> Made {
 }
 
 /// The bytes of hexadecimal digits.
-pub fn bytes(digits: &str) -> Vec<u8> {
+fn bytes(digits: &str) -> Vec<u8> {
     let digits: Vec<char> = digits.chars().filter(|digit| *digit != ' ').collect();
     let digit = |digit: &char| digit.to_digit(16).expect("a digit") as u8;
     let pairs = digits.chunks_exact(2);

@@ -3,7 +3,6 @@
 use std::collections::BTreeMap;
 
 use sides::scan::Null;
-use sides::storage::Met;
 
 use crate::counts::{Sum, add_all, count};
 use crate::judge::Exclusion;
@@ -25,23 +24,18 @@ impl Outside {
         for (why, count) in &self.counts {
             println!("  {}: {count}", why.text());
         }
-        let null =
-            |accepted| [Null::Message, Null::Attribute].map(|at| Exclusion::Null(at, accepted));
-        self.print_both(name, "a null dataspace", null);
-        let stored =
-            |accepted| [Met::Compact, Met::Chunked].map(|met| Exclusion::Stored(met, accepted));
-        self.print_both(name, "compact data or chunks", stored);
-    }
-
-    /// Prints how many are outside for one of two reasons that the port accepts, or refuses.
-    fn print_both(&self, name: &str, what: &str, reasons: impl Fn(bool) -> [Exclusion; 2]) {
-        let of = |why| self.counts.get(&why).copied().unwrap_or(0);
-        let sum = |accepted| reasons(accepted).map(of).iter().sum::<u64>();
-        let (accepted, refused) = (sum(true), sum(false));
+        let [accepted, refused] = [true, false].map(|accepted| self.null(accepted));
         println!(
-            "{name}with {what} {}, accepted by the port {accepted}, refused {refused}",
+            "{name}with a null dataspace {}, accepted by the port {accepted}, refused {refused}",
             accepted + refused
         );
+    }
+
+    /// How many with a null dataspace the port accepts, or refuses.
+    fn null(&self, accepted: bool) -> u64 {
+        let places = [Null::Message, Null::Attribute];
+        let of = |place| self.counts.get(&Exclusion::Null(place, accepted));
+        places.into_iter().filter_map(of).sum()
     }
 }
 
@@ -66,23 +60,8 @@ impl Exclusion {
                     Null::Message => "dataspace messages alone",
                     Null::Attribute => "an attribute",
                 },
-                answer(accepted)
-            ),
-            Exclusion::Stored(met, accepted) => format!(
-                "{}, {} by the port",
-                match met {
-                    Met::Compact => "compact data, and no chunked layout",
-                    Met::Chunked => "a chunked layout",
-                },
-                answer(accepted)
+                if accepted { "accepted" } else { "refused" }
             ),
         }
-    }
-}
-
-fn answer(accepted: bool) -> &'static str {
-    match accepted {
-        true => "accepted",
-        false => "refused",
     }
 }

@@ -1,9 +1,7 @@
 //! Wrong ports whose check is not the filling's, or whose filling is turned back by other tables.
 
 use sides::input::Input;
-use sides::pair::{
-    ALL_ROWS, CHUNKS_TOO_FEW, Figures, Filling, LISTED_CHUNKS, LISTED_ROWS, Pair, TABLE_TOO_SMALL,
-};
+use sides::pair::{ALL_ROWS, Figures, Filling, LISTED_ROWS, Pair, TABLE_TOO_SMALL};
 use sides::rust::{self, mended};
 
 use crate::breakage::{Breakage, Change};
@@ -102,7 +100,7 @@ pub const PAIRS: &[Breakage] = &[
     }),
     breakage("checked-before-it-is-filled", |_, p| {
         let check = p.check;
-        let refused = p.rows.fillings.iter_mut().filter(|_| check.refused != 0);
+        let refused = p.fillings.iter_mut().filter(|_| check.refused != 0);
         refused.for_each(|filling| filling.figures = check);
     }),
     breakage("a-row-for-the-refused-entry", |_, p| {
@@ -124,68 +122,12 @@ pub const PAIRS: &[Breakage] = &[
     breakage("other-words-where-it-just-fits", |_, p| {
         just_fitting(p, |f, _| f.alike = false);
     }),
-    breakage("check-with-4096-chunk-rows", |_, p| {
-        if *p.least_chunks().start() > LISTED_CHUNKS {
-            p.check = Figures::refused(CHUNKS_TOO_FEW);
-        }
-    }),
-    breakage("check-32-for-chunks", |_, p| {
-        if *p.least_chunks().start() > 0 {
-            p.check = Figures::refused(CHUNKS_TOO_FEW);
-        }
-    }),
-    breakage("32-for-chunk-rows-that-just-fit", |_, p| {
-        chunks_at(p, Some, |f, _| {
-            f.figures = Figures::refused(CHUNKS_TOO_FEW);
-        });
-    }),
-    breakage("a-chunk-row-too-few-passes", |_, p| {
-        chunks_at(
-            p,
-            |least| least.checked_sub(1),
-            |f, check| f.figures = check,
-        );
-    }),
-    breakage("no-chunk-rows-pass", |_, p| {
-        chunks_at(
-            p,
-            |least| least.min(1).checked_sub(1),
-            |f, check| f.figures = check,
-        );
-    }),
-    breakage("24-for-32", |_, p| {
-        chunks_at(
-            p,
-            |least| least.checked_sub(1),
-            |f, _| f.figures = TOO_SMALL,
-        );
-    }),
-    breakage("other-words-where-chunks-just-fit", |_, p| {
-        chunks_at(p, Some, |f, _| f.alike = false);
-    }),
-    breakage("neither-table-passes", |_, p| p.neither = p.check),
-    breakage("24-for-neither-table", |_, p| p.neither = TOO_SMALL),
-    breakage("32-for-neither-table", |_, p| {
-        p.neither = Figures::refused(CHUNKS_TOO_FEW);
-    }),
 ];
-
-/// Changes the filling with so many chunk rows lent, of the least that are enough, where they are known
-/// and some are needed.
-fn chunks_at(pair: &mut Pair, lent: fn(usize) -> Option<usize>, change: fn(&mut Filling, Figures)) {
-    let check = pair.check;
-    let least = pair.least_chunks_known().filter(|least| *least > 0);
-    let lent = least.and_then(lent);
-    let mut fillings = pair.chunks.fillings.iter_mut();
-    if let Some(filling) = fillings.find(|filling| Some(filling.lent) == lent) {
-        change(filling, check);
-    }
-}
 
 /// Changes the filling with so many rows lent, where it was made; the check is given too.
 fn at(pair: &mut Pair, lent: usize, change: fn(&mut Filling, Figures)) {
     let check = pair.check;
-    let mut fillings = pair.rows.fillings.iter_mut();
+    let mut fillings = pair.fillings.iter_mut();
     if let Some(filling) = fillings.find(|filling| filling.lent == lent) {
         change(filling, check);
     }
@@ -201,12 +143,7 @@ pub fn just_fitting(pair: &mut Pair, change: fn(&mut Filling, Figures)) {
 /// Changes the check and the fillings alike.
 fn both(pair: &mut Pair, change: fn(&mut Figures)) {
     change(&mut pair.check);
-    change(&mut pair.neither);
-    let fillings = pair
-        .rows
-        .fillings
-        .iter_mut()
-        .chain(&mut pair.chunks.fillings);
+    let fillings = pair.fillings.iter_mut();
     fillings.for_each(|filling| change(&mut filling.figures));
 }
 

@@ -170,15 +170,10 @@ fn unlike_by_hand(root: &Written, by_hand: &Written) -> PlainVerdict {
         let (at, (ours, theirs)) = words.find(|(_, (ours, theirs))| ours != theirs)?;
         Some((at, *ours, *theirs))
     };
-    let places = [
-        ("object", first(root.object.words(), by_hand.object.words())),
-        ("table", first(&root.table, &by_hand.table)),
-        ("chunk table", first(&root.chunks, &by_hand.chunks)),
-    ];
-    let mut unlike = places
-        .iter()
-        .filter_map(|(place, word)| Some((place, (*word)?)));
-    let (place, (at, ours, theirs)) = unlike.next().expect("words that differ");
+    let object = first(root.object.words(), by_hand.object.words());
+    let table = first(&root.table, &by_hand.table);
+    let place = if object.is_some() { "object" } else { "table" };
+    let (at, ours, theirs) = object.or(table).expect("words that differ");
     differ(
         &format!("the root operation has {ours} as word {at} of the {place}\n"),
         &format!("not asked; the port by hand has {theirs}\n"),
@@ -199,12 +194,7 @@ fn unlike_filling(file: &[u8], answer: &PlainAnswer) -> Option<PlainVerdict> {
     if answer.pair.fault().is_some() {
         return Some(differ(&pair_text(&answer.pair), "not asked\n"));
     }
-    let input = answer
-        .super_block
-        .as_ref()
-        .ok()
-        .map(|block| block.input(file));
-    let listing = listing::expected(file, &answer.by_hand, input.as_ref());
+    let listing = listing::expected(file, &answer.by_hand);
     (answer.listing != listing).then(|| {
         differ(
             &format!("the listing:\n{}", text(&answer.listing)),

@@ -1,10 +1,9 @@
 //! Wrong ports for plain files whose root's check is of something else, or whose listing is made of the
 //! filling alone.
 
-use sides::address::LAYOUT;
 use sides::answer::SuperBlock;
 use sides::listing::{self, lines, refused};
-use sides::pair::{CHUNKS_TOO_FEW, Figures, LISTED_CHUNKS, LISTED_ROWS, TABLE_TOO_SMALL};
+use sides::pair::{Figures, LISTED_ROWS, TABLE_TOO_SMALL};
 use sides::plain::as_version_2;
 use sides::port::{NUMBER, PART, PlainAnswer, ROW_WORDS, check};
 use sides::rust::published::rust_super_block;
@@ -94,42 +93,6 @@ pub const PLAIN_PAIRS: &[Breakage] = &[
     breakage("listing-24-for-refused", |_, a| {
         if a.pair.check.refused != 0 {
             a.listing = refused(TABLE_TOO_SMALL);
-        }
-    }),
-    breakage("root-chunk-row", |_, a| {
-        if a.root.object.chunks > 0 {
-            a.root.chunks[0] ^= 1;
-        }
-    }),
-    breakage("root-without-chunks", |_, a| {
-        a.root.object.chunks = 0;
-        a.root.chunks.fill(0);
-    }),
-    breakage("root-without-dimensionality", |_, a| {
-        a.root.object.dimensionality = 0;
-    }),
-    breakage("listing-of-more-than-4096-chunks", |_, a| {
-        if listing::number(&a.listing) == CHUNKS_TOO_FEW && a.pair.check.refused == 0 {
-            a.listing = lines(&a.root);
-        }
-    }),
-    breakage("listing-of-4095-chunks", |_, a| {
-        if a.pair.least_chunks_known() == Some(LISTED_CHUNKS) {
-            a.listing = refused(CHUNKS_TOO_FEW);
-        }
-    }),
-    breakage("listing-24-for-its-chunks", |_, a| {
-        if listing::number(&a.listing) == CHUNKS_TOO_FEW {
-            a.listing = refused(TABLE_TOO_SMALL);
-        }
-    }),
-    breakage("listing-of-parts-of-chunked-layouts", |_, a| {
-        if listing::number(&a.listing) == 0 {
-            let mut root = a.root.clone();
-            let rows = root.table.chunks_exact_mut(ROW_WORDS);
-            let layouts = rows.filter(|row| row[0] == u64::from(LAYOUT));
-            layouts.for_each(|row| row[PART] = 1);
-            a.listing = lines(&root);
         }
     }),
 ];

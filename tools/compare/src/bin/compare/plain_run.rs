@@ -6,9 +6,9 @@ use std::time::Instant;
 
 use sides::address::Place;
 use sides::generate::plain::plain_batch;
-use sides::generate::{crowded, numeric, spaces, storage};
+use sides::generate::{crowded, numeric, spaces};
 use sides::input::digits;
-use sides::pair::{CHUNKS_TOO_FEW, Sizes, TABLE_TOO_SMALL};
+use sides::pair::{Sizes, TABLE_TOO_SMALL};
 use sides::real;
 
 use crate::arguments::Arguments;
@@ -108,11 +108,10 @@ impl Plain {
     fn print_listed(&self) {
         let listed = |number: u64| self.listed.get(&number).copied().unwrap_or(0);
         println!(
-            "listings {}, with rows {}, refused for their rows alone with {TABLE_TOO_SMALL} {}, for their chunks with {CHUNKS_TOO_FEW} {}",
+            "listings {}, with rows {}, refused for their rows alone with {TABLE_TOO_SMALL} {}",
             self.files,
             listed(0),
-            listed(TABLE_TOO_SMALL),
-            listed(CHUNKS_TOO_FEW)
+            listed(TABLE_TOO_SMALL)
         );
     }
 
@@ -163,8 +162,7 @@ pub fn all(arguments: &Arguments, count: u64) -> io::Result<bool> {
     let crowded = further("crowded plain files", crowded::plain_batch);
     let numeric = further("numeric plain files", numeric::plain_batch);
     let spaces = further("plain files of dataspaces", spaces::plain_batch);
-    let storage = further("plain files of layouts", storage::plain_batch);
-    Ok(plain && crowded && numeric && spaces && storage)
+    Ok(plain && crowded && numeric && spaces)
 }
 
 /// Compares so many plain files from the seed beside the real ones, and prints the counts.

@@ -5,7 +5,7 @@ use std::sync::atomic::{AtomicU64, Ordering};
 use std::thread::Builder;
 use std::time::Instant;
 
-use sides::generate::{BATCH, batch, crowded, large, numeric, spaces, storage};
+use sides::generate::{BATCH, batch, crowded, large, numeric, spaces};
 use sides::input::Input;
 use sides::pair::Sizes;
 use sides::real;
@@ -91,13 +91,11 @@ pub fn run(arguments: &Arguments) -> io::Result<bool> {
     }
     let count = arguments.count.unwrap_or(COUNT);
     let headers = headers(arguments, count)?;
-    let further = |name, batch| further_headers(arguments, count, name, batch);
-    let crowded = further("crowded headers", crowded::batch);
-    let numeric = further("numeric headers", numeric::batch);
-    let spaces = further("headers of dataspaces", spaces::batch);
-    let storage = further("headers of layouts", storage::batch);
+    let crowded = further_headers(arguments, count, "crowded headers", crowded::batch);
+    let numeric = further_headers(arguments, count, "numeric headers", numeric::batch);
+    let spaces = further_headers(arguments, count, "headers of dataspaces", spaces::batch);
     let files = plain_run::all(arguments, count / HEADERS_TO_PLAIN)?;
-    Ok(headers && crowded && numeric && spaces && storage && files)
+    Ok(headers && crowded && numeric && spaces && files)
 }
 
 fn headers(arguments: &Arguments, count: u64) -> io::Result<bool> {

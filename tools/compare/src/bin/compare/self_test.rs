@@ -1,15 +1,15 @@
 //! Whether the comparison finds what is wrong: every breakage of the port's answer must show, and the
-//! tool must read the numbers, the texts and the layouts that were made by hand.
+//! tool must read the numbers and the texts that were made by hand.
 
 use sides::generate::plain::plain_batch;
-use sides::generate::{batch, crowded, numeric, spaces, storage};
+use sides::generate::{batch, crowded, numeric, spaces};
 use sides::input::Input;
 
 use crate::arguments::Arguments;
 use crate::breakage::{Breakage, of_headers, of_plain};
 use crate::judge::{Judge, Verdict};
 use crate::shrink::{shrink, shrink_plain};
-use crate::{made_layouts, made_numbers, made_texts};
+use crate::{made_numbers, made_texts};
 
 /// Inputs among which a breakage must show.
 const COUNT: u64 = 200_000;
@@ -24,12 +24,11 @@ struct Found {
     by_breakage: bool,
 }
 
-/// Whether numbers, texts and layouts are read, every breakage was found, and nothing where nothing is
-/// broken.
+/// Whether numbers and texts are read, every breakage was found, and nothing where nothing is broken.
 pub fn self_test(arguments: &Arguments) -> bool {
     let most = arguments.count.unwrap_or(COUNT);
     println!("seed {}, at most {most} inputs for each", arguments.seed);
-    let mut passed = made_numbers::are_read() & made_texts::are_read() & made_layouts::are_read();
+    let mut passed = made_numbers::are_read() & made_texts::are_read();
     for breakage in of_headers() {
         passed &= report(
             breakage,
@@ -78,7 +77,6 @@ fn in_headers(seed: u64, most: u64, breakage: &'static Breakage) -> Option<Found
         crowded::batch(seed, number, show);
         numeric::batch(seed, number, show);
         spaces::batch(seed, number, show);
-        storage::batch(seed, number, show);
     };
     let (tried, input) = first(most, &batch, &mut broken)?;
     let smallest = shrink(&input, &mut broken);
@@ -98,7 +96,6 @@ fn in_plain(seed: u64, most: u64, breakage: &'static Breakage) -> Option<Found> 
         crowded::plain_batch(seed, number, show);
         numeric::plain_batch(seed, number, show);
         spaces::plain_batch(seed, number, show);
-        storage::plain_batch(seed, number, show);
     };
     let (tried, file) = first(most, &batch, &mut broken)?;
     let smallest = shrink_plain(&file, &mut broken);

@@ -8,7 +8,6 @@ use sides::input::{Input, get};
 use sides::plain::{address, as_version_2, version};
 use sides::rust::mended::{rust_super_block, rust_walk};
 use sides::rust::{CONTINUATION, Entry};
-use sides::storage;
 
 /// Bytes that are tried at most, and what a try costs beside its bytes, and for so many numbers again.
 const WORK: usize = 200_000_000;
@@ -306,12 +305,6 @@ fn pointers(input: &Input, entry: Entry) -> Vec<Count> {
                 .map(|_| Count::Address(address))
                 .into_iter()
                 .collect()
-        }
-        LAYOUT => {
-            let places = storage::addresses(input, entry.body).into_iter();
-            let fields = places.map(|at| field(at, offsets));
-            let whole = fields.filter(|field| field.end <= input.file.len());
-            whole.map(Count::Address).collect()
         }
         _ => Vec::new(),
     }

@@ -32,34 +32,16 @@ pub struct Tables {
     least: BTreeMap<(bool, usize), u64>,
     /// Those of them that the listing has too few rows for, by the check's number.
     beyond: BTreeMap<u64, u64>,
-    /// Fillings that were turned back as 32, where the check passes and where it refuses.
-    chunks_too_few: u64,
-    chunks_too_few_refused: u64,
-    /// Headers that need chunk rows, of which the smallest number is known that is enough: whether the
-    /// check refuses.
-    listed: BTreeMap<bool, u64>,
-    /// The most of them.
-    longest: usize,
 }
 
 impl Tables {
     pub fn count(&mut self, pair: &Pair) {
         let refuses = pair.check.refused != 0;
-        // The first is among both, and one more was lent neither rows nor chunk rows.
-        self.fillings += (pair.rows.fillings.len() + pair.chunks.fillings.len()) as u64 - 1;
-        let [rows, chunks] =
-            [&pair.rows, &pair.chunks].map(|one| one.turned_back(&pair.check) as u64);
+        let too_small = pair.fillings.iter().filter(|one| one.is_too_small());
+        self.fillings += pair.fillings.len() as u64 - 1;
         match refuses {
-            true => self.too_small_refused += rows,
-            false => self.too_small += rows,
-        }
-        match refuses {
-            true => self.chunks_too_few_refused += chunks,
-            false => self.chunks_too_few += chunks,
-        }
-        if let Some(rows) = pair.least_chunks_known().filter(|rows| *rows > 0) {
-            count(&mut self.listed, refuses);
-            self.longest = self.longest.max(rows);
+            true => self.too_small_refused += too_small.count() as u64,
+            false => self.too_small += too_small.count() as u64,
         }
         let Some(rows) = pair.least_known() else {
             return;
@@ -78,7 +60,6 @@ impl Tables {
             "{name}fillings with other tables {}, turned back as 24 where the check passes {}, where it refuses {}",
             self.fillings, self.too_small, self.too_small_refused
         );
-        self.print_chunks(name);
         for (refuses, what) in [(false, "passes"), (true, "refuses")] {
             let all = self.least.iter().filter(|((one, _), _)| *one == refuses);
             let sum: u64 = all.clone().map(|(_, count)| count).sum();
@@ -88,20 +69,6 @@ impl Tables {
             }
         }
         self.print_beyond(name);
-    }
-
-    fn print_chunks(&self, name: &str) {
-        println!(
-            "{name}fillings turned back as 32 where the check passes {}, where it refuses {}",
-            self.chunks_too_few, self.chunks_too_few_refused
-        );
-        let listed = |refuses| self.listed.get(&refuses).copied().unwrap_or(0);
-        println!(
-            "{name}chunk rows found by fillings where the check passes {}, where it refuses {}, {} at most",
-            listed(false),
-            listed(true),
-            self.longest
-        );
     }
 
     fn print_beyond(&self, name: &str) {
@@ -123,10 +90,6 @@ impl Sum for Tables {
         self.too_small_refused += other.too_small_refused;
         add_all(&mut self.least, other.least);
         add_all(&mut self.beyond, other.beyond);
-        self.chunks_too_few += other.chunks_too_few;
-        self.chunks_too_few_refused += other.chunks_too_few_refused;
-        add_all(&mut self.listed, other.listed);
-        self.longest = self.longest.max(other.longest);
     }
 }
 
