@@ -1,5 +1,7 @@
 // Decoding an object header into a lent table (data_object.rs, data_object and
 // build_data_object_from_messages), and the bytes of its data.
+#![tactic(auto)]
+
 ghost use Rattle.std.specs.Prelude.{◌≡◌, ◌/◌, ◌≤◌, length};
 ghost use Rattle.format.specs.Bytes.{AreBytes};
 ghost use Rattle.row.specs.Rows.{row_words};

@@ -1,5 +1,7 @@
 // Checking an object header without a table: what it holds, or why it is refused. Whoever fills a
 // table afterwards knows how many rows it needs.
+#![tactic(auto)]
+
 ghost use Rattle.data_object_check.specs.Checked.{Checked};
 
 use data_object_messages::{Messages, data_object_messages};

@@ -1,4 +1,6 @@
 // The fields of an object header (data_object.rs, data_object).
+#![tactic(auto)]
+
 ghost use Rattle.std.specs.Prelude.{◌≡◌, ◌≤◌, ◌^◌, ◌%◌};
 ghost use Rattle.format.specs.Bits.{bit};
 ghost use Rattle.format.specs.Format.{read, pick};

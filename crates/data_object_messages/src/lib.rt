@@ -1,6 +1,8 @@
 // The messages of an object header within limits (data_object.rs, data_object): the tests that come
 // first, the header's fields, and the walk over its entries. Checking a header and filling a table
 // are both this.
+#![tactic(auto)]
+
 ghost use Rattle.std.specs.Prelude.{◌≡◌, ◌≤◌, length};
 ghost use Rattle.parser.specs.States.{file_limit, Widths};
 ghost use Rattle.ohdr_closing.specs.Answers.{Lends, limits_of, walk_out};

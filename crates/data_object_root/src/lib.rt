@@ -1,5 +1,7 @@
 // The root's object header of a plain file: where it lies, and with which widths it is read, stands
 // in the file's own superblock (parser.rs, parse, but for its test of the file's length).
+#![tactic(auto)]
+
 ghost use Rattle.std.specs.Prelude.{◌≡◌, length};
 ghost use Rattle.format.specs.Bytes.{AreBytes};
 ghost use Rattle.records.specs.Refusals.{refusal_number};

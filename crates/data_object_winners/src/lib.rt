@@ -1,5 +1,7 @@
 // The records that win among the messages of a header (data_object.rs,
 // build_data_object_from_messages).
+#![tactic(auto)]
+
 ghost use Rattle.std.specs.Prelude.{◌≡◌, ◌/◌, ◌≤◌, length};
 ghost use Rattle.row.specs.Rows.{row_words};
 ghost use Rattle.records.specs.Defaults.{default_data_space, default_link_info, default_group_info, default_attribute_info, default_data_type, default_data_layout};

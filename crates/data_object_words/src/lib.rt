@@ -1,4 +1,6 @@
 // The words of a decoded object header, for what takes numbers alone: 65 of them, in a lent array.
+#![tactic(auto)]
+
 ghost use Rattle.std.specs.Prelude.{◌≡◌, ◌≤◌, length};
 ghost use Rattle.std.proofs.lemmas.List.Edits.{sets};
 ghost use Rattle.format.specs.Bytes.{AreBytes};

@@ -1,4 +1,6 @@
 // How many elements a dataspace has: the one place that multiplies its sizes.
+#![tactic(auto)]
+
 ghost use Rattle.std.specs.Prelude.{◌≡◌, ℕ, ◌*◌, take};
 ghost use Rattle.records.specs.Elements.{product as product_of, is_null, elements_by, count_of};
 

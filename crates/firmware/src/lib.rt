@@ -1,5 +1,7 @@
 // The project's operations for firmware: C functions on numbers and byte slices. None requires
 // anything of its caller.
+#![tactic(auto)]
+
 ghost use Rattle.std.specs.Prelude.{◌≡◌, length, take, drop};
 ghost use Rattle.listing_text.specs.Listing.{listing_of, Counts};
 ghost use Rattle.super_block.specs.SuperBlocks.{super_block_of};

@@ -1,5 +1,7 @@
 // One field of a file: a little-endian number, bytes passed over, a zero-ended name, a text. Each
 // reader takes the file and a position, and answers the field with the position after it.
+#![tactic(auto)]
+
 ghost use Rattle.std.specs.Prelude.{◌≡◌, ◌+◌, ◌≤◌, ◌<◌, length, leb};
 ghost use Rattle.format.specs.Bytes.{le, all_ones, name_length, text_length, to_multiple_of8};
 ghost use Rattle.format.specs.Format.{done, number, skip, name, text, nothing, read, signature as signed};

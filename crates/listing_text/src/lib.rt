@@ -1,4 +1,6 @@
 // The listing: from a file, or a header in it, to the text that is written.
+#![tactic(auto)]
+
 ghost use Rattle.std.specs.Prelude.{◌≡◌, ◌+◌, ◌*◌, ◌/◌, ◌≤◌, length, get_or, take, drop};
 ghost use Rattle.row.specs.Rows.{row_words, first_rows};
 ghost use Rattle.text.specs.Text.{Wrote};

@@ -1,4 +1,6 @@
 // The first attribute of a table whose name is the wanted one.
+#![tactic(auto)]
+
 ghost use Rattle.std.specs.Prelude.{◌<◌, ◌/◌, length};
 ghost use Rattle.row.specs.Rows.{row_words, row_at};
 ghost use Rattle.lookup.specs.Lookup.{NameAt, Looked};

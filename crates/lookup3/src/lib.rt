@@ -1,5 +1,7 @@
 // The checksum that closes superblocks, object headers and their continuation blocks: Jenkins'
 // lookup3, which is the published `hashlittle` with initial value 0.
+#![tactic(auto)]
+
 ghost use Rattle.std.specs.Prelude.{◌≡◌, ◌+◌, ◌≤◌, ◌<◌, length};
 ghost use Rattle.format.specs.Bytes.{le};
 ghost use Rattle.lookup3.specs.Lookup3.{plus, minus, rotate, mix_line, mix, final_line, final_mix, add_block, start, lookup3, sum_matches};

@@ -1,4 +1,6 @@
 // Many names in one go: for each of them the row that the single lookup finds.
+#![tactic(auto)]
+
 ghost use Rattle.std.specs.Prelude.{◌≡◌, length};
 ghost use Rattle.lookup_names.specs.Names.{names_allowed, NameAnswered, LookedNames};
 

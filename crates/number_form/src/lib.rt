@@ -1,5 +1,7 @@
 // Which forms of a datatype's element are a number: of classes 0 and 1, by the class bits and the
 // properties.
+#![tactic(auto)]
+
 ghost use Rattle.std.specs.Prelude.{◌≡◌, ◌≤◌};
 ghost use Rattle.number_form.specs.Forms.{whole_size, fixed_form, is_float, float_form, number_form};
 

@@ -1,5 +1,7 @@
 // The attribute message (ohdr_message.rs, message_attribute): a name, and the value of a text or of a
 // number.
+#![tactic(auto)]
+
 ghost use Rattle.std.specs.Prelude.{◌≡◌, ℕ, eqb};
 ghost use Rattle.format.specs.Format.{found, read};
 ghost use Rattle.helpers.specs.Answers.{taken_out};

@@ -1,5 +1,7 @@
 // What a walk at a header's entries is limited by and how far it has come, the row that a message
 // takes, and what closes a block and a header.
+#![tactic(auto)]
+
 ghost use Rattle.std.specs.Prelude.{◌≡◌, List, ℕ, ◌+◌, ◌-◌, ◌≤◌, ◌<◌};
 ghost use Rattle.format.specs.Format.{read};
 ghost use Rattle.helpers.specs.Answers.{place_out};

@@ -1,4 +1,6 @@
 // The dataspace message (ohdr_message.rs, message_data_space).
+#![tactic(auto)]
+
 ghost use Rattle.std.specs.Prelude.{◌≡◌, ℕ, ◌≤◌};
 ghost use Rattle.format.specs.Format.{read, refused};
 ghost use Rattle.records.specs.Refusals.{refusal_number};

@@ -1,4 +1,6 @@
 // The datatype message (ohdr_message.rs, message_data_type), with types inside types.
+#![tactic(auto)]
+
 ghost use Rattle.std.specs.Prelude.{◌≡◌};
 ghost use Rattle.format.specs.Format.{read, times};
 ghost use Rattle.helpers.specs.Answers.{place_out};

@@ -1,5 +1,7 @@
 // An entry of an object header by itself (ohdr_message.rs, message_entry and message_kind): its
 // prefix, its body by its type, and the rest of its size.
+#![tactic(auto)]
+
 ghost use Rattle.std.specs.Prelude.{◌≡◌, ◌+◌, ◌-◌, ◌≤◌};
 ghost use Rattle.format.specs.Format.{read, skip, nothing};
 ghost use Rattle.helpers.specs.Answers.{taken_out, place_out};

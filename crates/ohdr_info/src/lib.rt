@@ -1,5 +1,7 @@
 // The messages that describe an object's links and attributes: link info, group info, attribute info
 // (ohdr_message.rs).
+#![tactic(auto)]
+
 ghost use Rattle.std.specs.Prelude.{◌≡◌, ◌≤◌};
 ghost use Rattle.format.specs.Format.{read};
 ghost use Rattle.helpers.specs.Answers.{u16_out, u64_out, address_out};

@@ -1,4 +1,6 @@
 // The data layout message (ohdr_message.rs), with the data that it leads to as a part of the file.
+#![tactic(auto)]
+
 ghost use Rattle.std.specs.Prelude.{◌≡◌, take as take_list};
 ghost use Rattle.format.specs.Format.{read, bytes, nothing};
 ghost use Rattle.helpers.specs.Answers.{taken_out};

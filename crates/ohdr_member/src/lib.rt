@@ -1,4 +1,6 @@
 // A member of a compound datatype, before its type (ohdr_message.rs, message_data_type).
+#![tactic(auto)]
+
 ghost use Rattle.std.specs.Prelude.{◌≡◌};
 ghost use Rattle.format.specs.Format.{read};
 ghost use Rattle.helpers.specs.Answers.{place_out};

@@ -1,5 +1,7 @@
 // The messages on how data are stored, but for their layout: fill value old and new, filter pipeline
 // (ohdr_message.rs).
+#![tactic(auto)]
+
 ghost use Rattle.std.specs.Prelude.{◌≡◌};
 ghost use Rattle.format.specs.Format.{read, times, nothing};
 ghost use Rattle.helpers.specs.Answers.{place_out};

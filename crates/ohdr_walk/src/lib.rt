@@ -1,5 +1,7 @@
 // Entries and the blocks that continuations open (ohdr_message.rs, message_entry, message_continue
 // and collect_all_messages), with the rows of a lent table.
+#![tactic(auto)]
+
 ghost use Rattle.std.specs.Prelude.{◌≡◌, ◌≤◌, length};
 ghost use Rattle.parser.specs.States.{Widths};
 ghost use Rattle.ohdr_closing.specs.Answers.{Lends, walked_of, walk_out};

@@ -1,5 +1,7 @@
 // What is known of the file while its headers are read: the widths of offsets and lengths, and the
 // end-of-file address.
+#![tactic(auto)]
+
 ghost use Rattle.std.specs.Prelude.{◌≡◌};
 ghost use Rattle.parser.specs.States.{width_allowed, state_of, address_valid};
 

@@ -1,4 +1,6 @@
 // The words of the records of an object, each at its place in an array of 65.
+#![tactic(auto)]
+
 ghost use Rattle.std.specs.Prelude.{◌≡◌, [], ◌∷◌, ◌+◌, ◌≤◌};
 ghost use Rattle.std.proofs.lemmas.List.Edits.{sets};
 ghost use Rattle.record_words.specs.Words.{wide8, wide16, wide32, optional_words, address_words, optional_address_words, dimensions_words, elements_words, data_space_words, format_words, data_type_words, link_info_words, group_info_words, attribute_info_words, data_layout_words};

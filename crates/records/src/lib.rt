@@ -1,5 +1,7 @@
 // The records of a data object, by value, as data_object.rs and fractal_heap.rs declare them, and
 // the reasons for which a file or a header is refused.
+#![tactic(auto)]
+
 ghost use Rattle.std.specs.Prelude.{◌≡◌};
 ghost use Rattle.records.specs.Refusals.{refusal_number};
 ghost use Rattle.records.specs.Numbers.{value_text};

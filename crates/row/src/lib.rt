@@ -1,5 +1,7 @@
 // A row of the lent table: its words, writing one, and reading one. How many words a row has is
 // known here alone.
+#![tactic(auto)]
+
 ghost use Rattle.std.specs.Prelude.{◌≡◌, ◌++◌, ◌+◌, ◌-◌, ◌*◌, ◌/◌, ◌≤◌, ◌<◌, length, take, replicate};
 ghost use Rattle.std.proofs.lemmas.List.Edits.{sets};
 ghost use Rattle.row.specs.Rows.{row_words, part_words, part_at, row_at, put_row};

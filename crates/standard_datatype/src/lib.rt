@@ -1,1 +1,2 @@
 // Specifications alone: the datatype message that is read, beside the standard's.
+#![tactic(auto)]

@@ -1,4 +1,6 @@
 // The superblock at the beginning of a file (super_block.rs), of versions 2 and 3.
+#![tactic(auto)]
+
 ghost use Rattle.std.specs.Prelude.{◌≡◌, ◌≤◌};
 ghost use Rattle.format.specs.Format.{read};
 ghost use Rattle.helpers.specs.Addresses.{defined_address};

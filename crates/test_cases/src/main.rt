@@ -2,6 +2,8 @@
 // against theirs, those of the file `messages` against their reports and those of the file `numbers`
 // against their numbers, and the bytes of the file `sums` against their sums, names each that fails,
 // and says how many of each it ran.
+#![tactic(auto)]
+
 use test_replayer::Against;
 use test_runner::{run_file, tell};
 

@@ -1,4 +1,6 @@
 // Replays the answers of the file `answers`, names each that fails, and says how many it ran.
+#![tactic(auto)]
+
 use test_replayer::Against;
 use test_runner::{run_file, tell};
 

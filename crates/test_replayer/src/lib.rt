@@ -1,5 +1,7 @@
 // Whether a case passes: its input has the listing, with the line of its check where it is a header,
 // the report or the numbers of its header, or the sum, that is expected.
+#![tactic(auto)]
+
 ghost use Rattle.std.specs.Prelude.{◌≡◌, ◌/◌, ◌≤◌, length, get_or};
 ghost use Rattle.format.specs.Format.{read};
 ghost use Rattle.row.specs.Rows.{row_words};

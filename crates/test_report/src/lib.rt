@@ -1,5 +1,7 @@
 // The report of a decoded header, or the numbers of its rows, compared piece after piece with the
 // bytes that are expected.
+#![tactic(auto)]
+
 ghost use Rattle.std.specs.Prelude.{◌/◌, ◌≤◌, ◌<◌, length, get_or};
 ghost use Rattle.row.specs.Rows.{row_words, first_rows};
 ghost use Rattle.text.specs.Text.{field};

@@ -1,5 +1,7 @@
 // Runs a file of cases, and tells how many it ran and which failed. A case is a name, an input and
 // what is expected of it; each of these parts has its length before it in 4 bytes, the lowest first.
+#![tactic(auto)]
+
 ghost use Rattle.std.specs.Prelude.{◌≡◌, ◌<◌, ◌≤◌};
 ghost use Rattle.test_replayer.specs.Passes.{Says};
 ghost use Rattle.test_runner.specs.Cases.{Ends, CaseOut, counted, StepIs, Tallied, Loads, RunOf};

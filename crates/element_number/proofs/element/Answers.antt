@@ -1,0 +1,27 @@
+-- The number is read lowest byte first, and turned round where class bit 0 is set.
+use mathlib.Core.Path.{sym, ◌∙◌, ap}
+use native.Mathlib.Omega.{arith}
+use Rattle.helpers.specs.Answers.{u64_out}
+use Rattle.format.specs.Bits.{bit_set, bit_clear}
+use Rattle.format.specs.Steps.{read_number, read_done}
+use Rattle.format.specs.OrderLaws.{swap_below}
+use Rattle.element_number.specs.Values.{element}
+use Rattle.number_form.specs.Sizes.{small_size}
+use Rattle.element_number.specs.Facts.{number_below}
+use borrow.Author.Rules.{rules}
+use Rattle.element_number.proofs.element.Goals as goal
+
+pub varint-requires : goal.varint-requires
+varint-requires c = small_size c.requires
+
+pub returns-in_default : goal.returns-in_default
+unfolding element
+returns-in_default c = (rw (read_number, ← c.varint.ensures, c.in_default.is), tt)
+
+pub returns-then-bits-eq0 : goal.returns-then-bits-eq0
+unfolding element
+returns-then-bits-eq0 c = (rw (read_number, ← c.varint.ensures, c.in-Value.is, bit_clear c.args.bits 0 c.if-bits-eq0.true, read_done), number_below _ (λ i. omega (arith, c.shared_slice_known-1.given i)) _ _ _ _ (sym (ap u64_out c.in-Value.is) ∙ c.varint.ensures))
+
+pub returns : goal.returns
+unfolding element
+returns c = (rw (read_number, ← c.varint.ensures, c.in-Value.is, bit_set c.args.bits 0 c.if-bits-eq0.false, read_done, ← c.swap_of.ensures), rw c.swap_of.ensures (swap_below _ _))

@@ -1,0 +1,8 @@
+-- A number is its lower bytes plus its higher ones, shifted: here two bytes and two.
+use Rattle.format.specs.BytesLaws.{le_split}
+use native.Mathlib.Omega.{arith}
+use borrow.Author.Rules.{rules}
+use Rattle.helpers.proofs.bytes_4.Goals as goal
+
+pub returns : goal.returns
+returns c = (omega (arith, le_split c.args.file.now c.args.at 2 2), omega arith)

@@ -1,0 +1,14 @@
+-- A size above 8 is refused by the format too; any other is read by the call.
+use Rattle.format.specs.Steps.{read_refuse}
+use borrow.Author.Tests.{le-leb, lt-leb}
+use borrow.Author.Rules.{rules}
+use Rattle.helpers.proofs.varint_size.Goals as goal
+
+pub returns-then-size-gt8 : goal.returns-then-size-gt8
+returns-then-size-gt8 c = rw (lt-leb _ _ c.if-size-gt8.true, read_refuse)
+
+pub returns-in_default : goal.returns-in_default
+returns-in_default c = rw (le-leb _ _ c.if-size-gt8.false, ← c.varint.ensures, c.in_default.is)
+
+pub returns : goal.returns
+returns c = rw (le-leb _ _ c.if-size-gt8.false, ← c.varint.ensures, c.in-Value.is)

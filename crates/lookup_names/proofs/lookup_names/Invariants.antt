@@ -1,0 +1,17 @@
+-- After each turn one name more has its answer, and zeros stand behind it.
+use Prim.Native.Nat.{◌-◌, ◌/◌, ◌≤◌}
+use mathlib.Core.Path.{◌≡◌, refl, ◌∙◌}
+use mathlib.Core.Logic.{inl, inr}
+use Rattle.row.specs.Clearing.{cleared_all}
+use lib.ListN.{length}
+use native.Mathlib.Omega.{arith}
+use Rattle.lookup_names.specs.Names.{Answers}
+use Rattle.lookup_names.specs.Facts.{none_answered, one_more, all_answered}
+use borrow.Author.Rules.{rules}
+use Rattle.lookup_names.proofs.lookup_names.Given as goal
+
+abbrev pub invariant-loop-k : goal.invariant-loop-k
+invariant-loop-k l = (l.k ≤ l.count) × Answers l.file l.table l.rows l.text l.names (length l.initial.answers) l.k l.answers
+
+abbrev pub decreases-loop-k : goal.decreases-loop-k
+decreases-loop-k l = l.count - l.k

@@ -1,0 +1,6 @@
+-- The words of the dataspace are set one after another, its kind, its sizes and its elements by the calls.
+use borrow.Author.Rules.{rules}
+use Rattle.record_words.proofs.put_data_space.Goals as goal
+
+pub returns : goal.returns
+returns c = rw (c.put_elements.ensures, c.put_dimensions-2.ensures, c.put_dimensions.ensures, c.put_optional.ensures, c.wide_u8.ensures)
