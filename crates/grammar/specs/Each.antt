@@ -1,5 +1,5 @@
 -- What holds of each message that stands as an entry holds of each message of a reading: by induction over what stands. Assumes nothing.
-use Rattle.std.specs.Prelude.{ℕ, ◌+◌, ◌-◌, List, [], ◌∷◌, ◌++◌}
+use Rattle.std.specs.Prelude.{ℕ, List, [], ◌∷◌, ◌++◌}
 use Rattle.std.proofs.Common.{sym, subst}
 use Rattle.grammar.specs.Message.{Message, message}
 use Rattle.grammar.specs.Grammar.{Source, Item, One, Run, ends, goes, is_message, is_continuation, is_block, Reading}

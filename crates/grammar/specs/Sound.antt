@@ -1,6 +1,6 @@
 -- What the definition reaches stands by the grammar, within the limits: each of its tests is one of the grammar's. Assumes nothing.
 use Prim.Native.Nat.{ℕ, zero, suc, ◌+◌, ◌-◌, ◌≤◌, ◌<◌}
-use Rattle.std.specs.Prelude.{◌≡◌, true, ◌⊎◌, leb, ltb}
+use Rattle.std.specs.Prelude.{◌≡◌, true, leb, ltb}
 use Rattle.std.proofs.Math.Path.{subst, subst₂}
 use Rattle.std.proofs.Math.Logic.{⊎_elim}
 use mathlib.Core.List.{List, [], ◌∷◌, ◌++◌}

@@ -1,6 +1,6 @@
 -- The definition accepts exactly what has a reading within the limits, with that reading's end and items: it is sound and complete.
 -- Assumes nothing.
-use Rattle.std.specs.Prelude.{ℕ, suc, ◌-◌, ◌≡◌, ◌↔◌, length}
+use Rattle.std.specs.Prelude.{ℕ, suc, ◌≡◌, ◌↔◌, length}
 use Rattle.std.proofs.Math.Path.{refl, subst₂}
 use Rattle.std.proofs.Common.{◌∙◌, arith}
 use mathlib.Core.List.{List}

@@ -1,5 +1,5 @@
 -- Choices, what follows a find, and items within limits: each case by itself. Assumes nothing.
-use Rattle.std.specs.Prelude.{ℕ, zero, suc, ◌+◌, ◌-◌, ◌≤◌, ◌<◌, ◌≡◌, refl, Bool, true, false, ◌⊎◌, ◌↔◌, List, [], ◌++◌, length, ltb}
+use Rattle.std.specs.Prelude.{ℕ, zero, suc, ◌+◌, ◌≤◌, ◌<◌, ◌≡◌, refl, Bool, true, false, ◌⊎◌, ◌↔◌, List, [], ◌++◌, length, ltb}
 use Rattle.std.proofs.Common.{ap, inl, inr, arith, length-append, ltb-true, ltb-false, lt-ltb}
 use Rattle.format.specs.Format.{Out, found, refused}
 use Rattle.grammar.specs.Grammar.{Item}

@@ -9,7 +9,7 @@ ghost use Rattle.records.specs.Elements.{TrueSpace};
 ghost use Rattle.records.specs.Defaults.{no_dimensions, default_data_space, default_link_info, default_group_info, default_attribute_info, default_data_type, default_data_layout};
 
 // Why a file or a header is refused. `refusal_number` gives each its number.
-#[derive(Drop)]
+#[derive(Clone, Copy)]
 pub enum Refusal {
     // 1: width not 2 to 8
     Width,
@@ -110,45 +110,45 @@ impl Refusal {
 }
 
 // A field that a record may lack.
-#[derive(Drop)]
+#[derive(Clone, Copy)]
 pub enum OptionU8 {
     None,
     Some(u8),
 }
 
-#[derive(Drop)]
+#[derive(Clone, Copy)]
 pub enum OptionU16 {
     None,
     Some(u16),
 }
 
-#[derive(Drop)]
+#[derive(Clone, Copy)]
 pub enum OptionU32 {
     None,
     Some(u32),
 }
 
-#[derive(Drop)]
+#[derive(Clone, Copy)]
 pub enum OptionU64 {
     None,
     Some(u64),
 }
 
 // An address of the file, or the undefined one, at which nothing stands.
-#[derive(Drop)]
+#[derive(Clone, Copy)]
 pub enum Address {
     Undefined,
     Number(u64),
 }
 
-#[derive(Drop)]
+#[derive(Clone, Copy)]
 pub enum OptionAddress {
     None,
     Some(Address),
 }
 
 // How the bits of a number stand in its bytes.
-#[derive(Drop)]
+#[derive(Clone, Copy)]
 pub enum DataFormat {
     Fixed {
         bit_offset: u16,
@@ -165,14 +165,14 @@ pub enum DataFormat {
     },
 }
 
-#[derive(Drop)]
+#[derive(Clone, Copy)]
 pub enum OptionDataFormat {
     None,
     Some(DataFormat),
 }
 
 // At most four sizes: the first `count` of `sizes`, and then zeros.
-#[derive(Drop)]
+#[derive(Clone, Copy)]
 pub struct Dimensions {
     pub sizes: [u64; 4],
     pub count: u8,
@@ -190,14 +190,14 @@ impl Dimensions {
 }
 
 // A number of elements, or too many for 64 bits.
-#[derive(Drop)]
+#[derive(Clone, Copy)]
 pub enum ElementCount {
     Count(u64),
     TooMany,
 }
 
 // The sizes of an array, and how many elements they make.
-#[derive(Drop)]
+#[derive(Clone, Copy)]
 pub struct DataSpace {
     pub dimension_size: Dimensions,
     pub dimension_max_size: Dimensions,
@@ -230,7 +230,7 @@ impl DataSpace {
     }
 }
 
-#[derive(Drop)]
+#[derive(Clone, Copy)]
 pub struct LinkInfo {
     pub flags: u8,
     pub maximum_creation_index: OptionU64,
@@ -253,7 +253,7 @@ impl LinkInfo {
     }
 }
 
-#[derive(Drop)]
+#[derive(Clone, Copy)]
 pub struct GroupInfo {
     pub flags: u8,
     pub maximum_compact_value: OptionU16,
@@ -276,7 +276,7 @@ impl GroupInfo {
     }
 }
 
-#[derive(Drop)]
+#[derive(Clone, Copy)]
 pub struct AttributeInfo {
     pub flags: u8,
     pub maximum_creation_index: u64,
@@ -299,7 +299,7 @@ impl AttributeInfo {
     }
 }
 
-#[derive(Drop)]
+#[derive(Clone, Copy)]
 pub struct DataType {
     pub class_and_version: u8,
     pub class_bit_field: u32,
@@ -323,13 +323,13 @@ impl DataType {
 }
 
 // Bytes of the file, from a position on.
-#[derive(Drop)]
+#[derive(Clone, Copy)]
 pub struct Part {
     pub position: usize,
     pub length: usize,
 }
 
-#[derive(Drop)]
+#[derive(Clone, Copy)]
 pub enum OptionPart {
     None,
     Some(Part),
@@ -337,7 +337,7 @@ pub enum OptionPart {
 
 // A layout's data as bytes of the file, beside the address that the layout has for them. Compact
 // data have no address.
-#[derive(Drop)]
+#[derive(Clone, Copy)]
 pub struct DataLayout {
     pub address: OptionAddress,
     pub data: Part,
@@ -359,7 +359,7 @@ impl DataLayout {
 
 // A number: a whole one, without or with a sign, a single or a double, its bits as they are stored.
 // A NaN never is a float here: it would lose its sign and its payload. It is held by its bits.
-#[derive(Drop)]
+#[derive(Clone, Copy)]
 pub enum Number {
     Unsigned(u64),
     Signed(i64),
@@ -370,7 +370,7 @@ pub enum Number {
 }
 
 // The value of an attribute: a text, as bytes of the file, or a number; many have none.
-#[derive(Drop)]
+#[derive(Clone, Copy)]
 pub enum Value {
     None,
     Text(Part),
@@ -390,7 +390,7 @@ impl Value {
 }
 
 // An attribute's name, and its value.
-#[derive(Drop)]
+#[derive(Clone, Copy)]
 pub struct Attribute {
     pub name: Part,
     pub value: Value,

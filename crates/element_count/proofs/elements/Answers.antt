@@ -1,6 +1,4 @@
 -- A null dataspace has none; any other has the product of its sizes.
-use borrow.Author.Tests.{not-true, not-false}
-use borrow.Author.Rules.{rules}
 use Rattle.element_count.proofs.elements.Goals as goal
 
 pub returns-then-not-is_null : goal.returns-then-not-is_null

@@ -1,5 +1,4 @@
 -- No kind is no null dataspace; of a kind its number tells.
-use borrow.Author.Rules.{rules}
 use Rattle.element_count.proofs.is_null.Goals as goal
 
 pub returns-in-None : goal.returns-in-None

@@ -1,12 +1,10 @@
 -- After each turn the count is the product of the sizes so far.
 use Rattle.element_count.specs.Facts.{product_more}
-use Rattle.records.specs.Elements.{product, count_of}
+use Rattle.records.specs.Elements.{product}
 use borrow.Author.Rules.{rules}
 use lib.Seq.{take_all}
-use lib.ListN.{length, take}
 use native.Mathlib.Omega.{arith}
 use mathlib.Core.Path.{◌≡◌, refl}
-use Prim.Native.Nat.{◌-◌, ◌≤◌}
 use Rattle.element_count.proofs.product.Goals as goal
 
 pub loop-i-init : goal.loop-i-init

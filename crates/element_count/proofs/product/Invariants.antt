@@ -1,11 +1,7 @@
 -- After each turn the count is the product of the sizes so far.
-use Rattle.element_count.specs.Facts.{product_more}
 use Rattle.records.specs.Elements.{product, count_of}
-use borrow.Author.Rules.{rules}
-use lib.Seq.{take_all}
 use lib.ListN.{length, take}
-use native.Mathlib.Omega.{arith}
-use mathlib.Core.Path.{◌≡◌, refl}
+use mathlib.Core.Path.{◌≡◌}
 use Prim.Native.Nat.{◌-◌, ◌≤◌}
 use Rattle.element_count.proofs.product.Given as goal
 

@@ -2,7 +2,6 @@
 use Rattle.element_count.specs.Facts.{count_many, fits_count, many_count, many_times}
 use mathlib.Core.Path.{sym, ◌∙◌}
 use native.Mathlib.Nat.{mul-zero}
-use borrow.Author.Rules.{rules}
 use Rattle.element_count.proofs.times.Goals as goal
 
 pub returns-then-n-eq0 : goal.returns-then-n-eq0

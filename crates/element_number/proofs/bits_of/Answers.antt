@@ -7,7 +7,7 @@ use borrow.Author.Rules.{rules}
 use Rattle.element_number.proofs.bits_of.Goals as goal
 
 pub returns-in-Signed : goal.returns-in-Signed
-returns-in-Signed c = let h = c.known_told-in-Signed-1.given in rw c.in-Signed.is (c.signed_bits.ensures ∙ ap twos (to_z-of_z w64 c.in-Signed.x (record { sfits = h.0.1 })))
+returns-in-Signed c = rw c.in-Signed.is (c.signed_bits.ensures ∙ ap twos (to_z-of_z w64 c.in-Signed.x (record { sfits = search rules })))
 
 pub returns-in-Single : goal.returns-in-Single
 returns-in-Single c = rw c.in-Single.is c.single_bits.ensures

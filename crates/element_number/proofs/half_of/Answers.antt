@@ -14,4 +14,4 @@ pub returns-in-4 : goal.returns-in-4
 returns-in-4 c = rw c.in-4.is (refl, refl, omega arith, omega arith)
 
 pub returns-in_default : goal.returns-in_default
-returns-in_default c = let r = c.in_default.rest in rw (last_size (c.requires) r.0.0.1 r.0.1 r.1) (refl, refl, omega arith, omega arith)
+returns-in_default c = let r = c.in_default.in_default-own.rest in rw (last_size (c.requires) r.0.0.1 r.0.1 r.1) (refl, refl, omega arith, omega arith)

@@ -14,10 +14,10 @@ pub returns-in-Unsigned : goal.returns-in-Unsigned
 returns-in-Unsigned c = rw c.in-Unsigned.is
 
 pub returns-in-Signed : goal.returns-in-Signed
-returns-in-Signed c = rw (c.in-Signed.is, to_z-of_z w64 c.Signed-of.result (record { sfits = c.Signed-of.type-inv }), c.Signed-of.ensures, c.half_of_lem.ensures.0)
+returns-in-Signed c = rw (c.in-Signed.is, to_z-of_z w64 c.signed_of.result (record { sfits = c.signed_of.type_inv }), c.signed_of.ensures, c.half_of.ensures.0)
 
 pub returns-in-Single : goal.returns-in-Single
-returns-in-Single c = rw c.in-Single.is c.Single-of.ensures
+returns-in-Single c = rw c.in-Single.is c.single_of.ensures
 
 pub returns-in-Double : goal.returns-in-Double
 returns-in-Double c = rw c.in-Double.is c.double_of.ensures

@@ -17,4 +17,4 @@ number_of-requires c = (c.requires, rw c.in-Value.is at c.element.ensures.1)
 
 pub returns : goal.returns
 unfolding number_value
-returns c = rw (read_bind, ← c.element.ensures.0, c.in-Value.is, read_done, c.number_of_lem.ensures)
+returns c = rw (read_bind, ← c.element.ensures.0, c.in-Value.is, read_done, c.number_of.ensures)

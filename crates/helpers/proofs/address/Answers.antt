@@ -2,7 +2,6 @@
 use Rattle.format.specs.Steps.{read_number, read_done}
 use borrow.Author.Tests.{eq-eqb, ne_eqb}
 use Rattle.helpers.specs.Addresses.{address}
-use borrow.Author.Rules.{rules}
 use Rattle.helpers.proofs.address.Goals as goal
 
 pub returns-in_default : goal.returns-in_default

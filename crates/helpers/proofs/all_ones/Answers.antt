@@ -1,8 +1,4 @@
 -- Width by width.
-use Prim.Native.Nat.{◌≤◌}
-use mathlib.Core.Path.{◌≡◌}
-use native.Mathlib.Omega.{arith}
-use Rattle.helpers.specs.Facts.{past}
 use Rattle.helpers.proofs.all_ones.Goals as goal
 
 pub returns-in-0 : goal.returns-in-0

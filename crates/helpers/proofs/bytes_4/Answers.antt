@@ -1,7 +1,6 @@
 -- A number is its lower bytes plus its higher ones, shifted: here two bytes and two.
 use Rattle.format.specs.BytesLaws.{le_split}
 use native.Mathlib.Omega.{arith}
-use borrow.Author.Rules.{rules}
 use Rattle.helpers.proofs.bytes_4.Goals as goal
 
 pub returns : goal.returns

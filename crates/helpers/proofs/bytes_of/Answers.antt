@@ -1,10 +1,6 @@
 -- Size by size: either one call reads the number, or it is four bytes plus the rest, shifted.
-use Rattle.helpers.specs.Facts.{past}
 use Rattle.format.specs.BytesLaws.{le_none, le_split}
 use native.Mathlib.Omega.{arith}
-use mathlib.Core.Path.{◌≡◌}
-use Prim.Native.Nat.{◌≤◌}
-use borrow.Author.Rules.{rules}
 use Rattle.helpers.proofs.bytes_of.Goals as goal
 
 pub returns-in-0 : goal.returns-in-0

@@ -4,7 +4,6 @@ use lib.ListN.{length}
 use Prim.Native.Nat.{◌+◌}
 use Rattle.format.specs.Steps.{number_room}
 use native.Mathlib.Omega.{arith}
-use borrow.Author.Rules.{rules}
 use Rattle.helpers.proofs.le_u8.Goals as goal
 
 pub bytes_1-requires : goal.bytes_1-requires

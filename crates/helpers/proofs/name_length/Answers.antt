@@ -1,10 +1,8 @@
 -- The name's length is the bytes passed so far plus the length from here on, turn by turn.
 use Rattle.format.specs.BytesLaws.{name_none, name_zero, name_past, name_step}
-use Rattle.format.specs.Bytes.{name_length}
-use lib.ListN.{length}
 use native.Mathlib.Omega.{arith}
 use mathlib.Core.Path.{◌≡◌}
-use Prim.Native.Nat.{◌+◌, ◌-◌, ◌≤◌}
+use Prim.Native.Nat.{◌+◌, ◌-◌}
 use Rattle.helpers.proofs.name_length.Goals as goal
 
 pub loop-n-init : goal.loop-n-init

@@ -1,7 +1,6 @@
 -- The four bytes are one number of the format, and the test is the format's own.
 use Rattle.format.specs.Steps.{read_number, read_refuse, read_done}
 use borrow.Author.Tests.{eq-eqb, ne_eqb}
-use borrow.Author.Rules.{rules}
 use Rattle.helpers.proofs.signature.Goals as goal
 
 pub returns-in_default : goal.returns-in_default

@@ -4,7 +4,6 @@ use lib.ListN.{length}
 use Prim.Native.Nat.{◌+◌}
 use Rattle.format.specs.Steps.{skip_room}
 use native.Mathlib.Omega.{arith}
-use borrow.Author.Rules.{rules}
 use Rattle.helpers.proofs.take.Goals as goal
 
 pub overflow_add-result : goal.overflow_add-result

@@ -2,7 +2,6 @@
 use Rattle.format.specs.BytesLaws.{name_outside}
 use Rattle.format.specs.Steps.{name_room}
 use borrow.Author.Tests.{lt-ltb, le-ltb, le-leb, eq-eqb, ne_eqb}
-use borrow.Author.Rules.{rules}
 use Rattle.helpers.proofs.take_till.Goals as goal
 
 pub returns-then-file-at : goal.returns-then-file-at

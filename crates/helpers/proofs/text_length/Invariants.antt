@@ -1,9 +1,7 @@
 -- A zero at the end does not count, so the text's length stays the same, turn by turn.
-use Rattle.format.specs.BytesLaws.{text_none, text_step, text_full}
 use Rattle.format.specs.Bytes.{text_length}
-use native.Mathlib.Omega.{arith}
 use mathlib.Core.Path.{◌≡◌}
-use Prim.Native.Nat.{◌-◌, ◌≤◌}
+use Prim.Native.Nat.{◌≤◌}
 use Rattle.helpers.proofs.text_length.Given as goal
 
 abbrev pub invariant-loop-n : goal.invariant-loop-n

@@ -4,7 +4,6 @@ use lib.ListN.{length}
 use Prim.Native.Nat.{◌+◌}
 use Rattle.format.specs.Steps.{text_room}
 use native.Mathlib.Omega.{arith}
-use borrow.Author.Rules.{rules}
 use Rattle.helpers.proofs.trim_end.Goals as goal
 
 pub text_length-requires : goal.text_length-requires

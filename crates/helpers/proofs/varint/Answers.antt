@@ -4,7 +4,6 @@ use Rattle.format.specs.Steps.{number_room}
 use lib.ListN.{length}
 use native.Mathlib.Omega.{arith}
 use Prim.Native.Nat.{◌+◌}
-use borrow.Author.Rules.{rules}
 use Rattle.helpers.proofs.varint.Goals as goal
 
 pub bytes_of-requires : goal.bytes_of-requires

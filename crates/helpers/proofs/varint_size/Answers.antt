@@ -1,7 +1,6 @@
 -- A size above 8 is refused by the format too; any other is read by the call.
 use Rattle.format.specs.Steps.{read_refuse}
 use borrow.Author.Tests.{le-leb, lt-leb}
-use borrow.Author.Rules.{rules}
 use Rattle.helpers.proofs.varint_size.Goals as goal
 
 pub returns-then-size-gt8 : goal.returns-then-size-gt8

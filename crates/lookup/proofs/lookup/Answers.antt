@@ -1,13 +1,9 @@
 -- No row passed so far has the name, and of the row at hand the bytes compared so far agree.
-use Rattle.lookup.specs.Facts.{Agree, room, nameless, differs, bears}
-use Rattle.lookup.specs.Lookup.{NoneBelow}
-use lib.ListN.{length}
+use Rattle.lookup.specs.Facts.{room, nameless, differs, bears}
 use borrow.Author.Count.{below_more}
 use borrow.Author.Rules.{rules}
 use native.Mathlib.Omega.{arith}
-use mathlib.Core.Path.{◌≡◌, refl}
-use Rattle.lookup.specs.declared.LookupAnswer.TheVariants as answers
-use Prim.Native.Nat.{◌+◌, ◌-◌, ◌≤◌}
+use mathlib.Core.Path.{refl}
 use Rattle.lookup.proofs.lookup.Goals as goal
 
 pub returns-then-rows_in-rows : goal.returns-then-rows_in-rows

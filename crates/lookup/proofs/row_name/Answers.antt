@@ -1,7 +1,6 @@
 -- Each test is a part of what a row with such a name is, so only a row that passes them all is one.
 use native.Mathlib.Omega.{arith}
 use Rattle.lookup.specs.Facts.{attribute_name, no_name, other_name}
-use borrow.Author.Rules.{rules}
 use Rattle.lookup.proofs.row_name.Goals as goal
 
 pub returns-then-row-ne12 : goal.returns-then-row-ne12

@@ -1,11 +1,10 @@
 -- Each test is the form's, in its order.
 use mathlib.Core.Path.{sym, ◌∙◌}
 use native.Mathlib.Omega.{arith}
-use borrow.Author.Tests.{not-true, not-false, eq-eqb, ne_eqb}
+use borrow.Author.Tests.{eq-eqb, ne_eqb}
 use Rattle.format.specs.Bits.{bit_set, bit_clear}
 use Rattle.number_form.specs.Sizes.{small_size}
 use Rattle.number_form.specs.Forms.{fixed_form}
-use borrow.Author.Rules.{rules}
 use Rattle.number_form.proofs.fixed_form.Goals as goal
 
 pub returns-then-not-whole_size : goal.returns-then-not-whole_size

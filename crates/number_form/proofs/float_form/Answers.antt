@@ -1,6 +1,5 @@
 -- A single, a double, or neither.
 use Rattle.number_form.specs.Forms.{float_form}
-use borrow.Author.Rules.{rules}
 use Rattle.number_form.proofs.float_form.Goals as goal
 
 pub returns-then-is_float : goal.returns-then-is_float

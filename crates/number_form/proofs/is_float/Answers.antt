@@ -4,7 +4,6 @@ use Prim.Native.Nat.{◌/◌}
 use lib.Bits.{and_mask}
 use Rattle.format.specs.Bits.{bit_set, bit_clear}
 use Rattle.number_form.specs.Forms.{is_float}
-use borrow.Author.Rules.{rules}
 use Rattle.number_form.proofs.is_float.Goals as goal
 
 pub returns-then-bit_precision-width : goal.returns-then-bit_precision-width

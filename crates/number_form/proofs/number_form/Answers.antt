@@ -2,7 +2,6 @@
 use borrow.Author.Tests.{ne_eqb}
 use lib.Bits.{and_mask}
 use Rattle.number_form.specs.Forms.{number_form}
-use borrow.Author.Rules.{rules}
 use Rattle.number_form.proofs.number_form.Goals as goal
 
 pub returns-in_default : goal.returns-in_default

@@ -1,6 +1,5 @@
 -- Undefined or a number, the two words are set in their places.
 use native.Mathlib.Numerals.{towards_suc}
-use borrow.Author.Rules.{rules}
 use Rattle.record_words.proofs.put_address.Goals as goal
 
 pub returns-in-Undefined : goal.returns-in-Undefined

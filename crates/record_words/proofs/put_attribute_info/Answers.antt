@@ -1,5 +1,4 @@
 -- The words of the attribute info are set one after another, those of addresses by the calls.
-use borrow.Author.Rules.{rules}
 use Rattle.record_words.proofs.put_attribute_info.Goals as goal
 
 pub returns : goal.returns

@@ -1,5 +1,4 @@
 -- The words of the address are set by the call, and then those of the data.
-use borrow.Author.Rules.{rules}
 use Rattle.record_words.proofs.put_data_layout.Goals as goal
 
 pub returns : goal.returns

@@ -1,5 +1,4 @@
 -- The words of the dataspace are set one after another, its kind, its sizes and its elements by the calls.
-use borrow.Author.Rules.{rules}
 use Rattle.record_words.proofs.put_data_space.Goals as goal
 
 pub returns : goal.returns

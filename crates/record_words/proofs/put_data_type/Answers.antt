@@ -1,5 +1,4 @@
 -- The words of the datatype are set one after another, its list size and its format by the calls.
-use borrow.Author.Rules.{rules}
 use Rattle.record_words.proofs.put_data_type.Goals as goal
 
 pub returns : goal.returns

@@ -1,5 +1,4 @@
 -- Too many or a number, the two words are set in their places.
-use borrow.Author.Rules.{rules}
 use Rattle.record_words.proofs.put_elements.Goals as goal
 
 pub returns-in-TooMany : goal.returns-in-TooMany

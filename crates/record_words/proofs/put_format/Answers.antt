@@ -1,5 +1,4 @@
 -- Case by case, the call sets the words of that format, with zeros for what it lacks.
-use borrow.Author.Rules.{rules}
 use Rattle.record_words.proofs.put_format.Goals as goal
 
 pub returns-in_default : goal.returns-in_default

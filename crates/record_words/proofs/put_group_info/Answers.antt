@@ -1,5 +1,4 @@
 -- The words of the group info are set one after another, the optional ones by the calls.
-use borrow.Author.Rules.{rules}
 use Rattle.record_words.proofs.put_group_info.Goals as goal
 
 pub returns : goal.returns

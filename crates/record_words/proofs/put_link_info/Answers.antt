@@ -1,5 +1,4 @@
 -- The words of the link info are set one after another, those of optional ones and of addresses by the calls.
-use borrow.Author.Rules.{rules}
 use Rattle.record_words.proofs.put_link_info.Goals as goal
 
 pub returns : goal.returns

@@ -1,6 +1,5 @@
 -- Absent or present, the two words are set in their places.
 use native.Mathlib.Numerals.{towards_suc}
-use borrow.Author.Rules.{rules}
 use Rattle.record_words.proofs.put_optional.Goals as goal
 
 pub returns-in-None : goal.returns-in-None

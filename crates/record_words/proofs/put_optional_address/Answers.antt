@@ -1,6 +1,5 @@
 -- Absent or present, the first word is set in its place, and the others by the call.
 use native.Mathlib.Numerals.{towards_suc}
-use borrow.Author.Rules.{rules}
 use Rattle.record_words.proofs.put_optional_address.Goals as goal
 
 pub returns-in-None : goal.returns-in-None

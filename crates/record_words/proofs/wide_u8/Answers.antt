@@ -1,5 +1,4 @@
 -- Case by case: a wider number has the same value.
-use borrow.Author.Rules.{rules}
 use Rattle.record_words.proofs.wide_u8.Goals as goal
 
 pub returns-in-None : goal.returns-in-None

@@ -1,9 +1,9 @@
 -- After each turn the words from the rows up to here are zero, and the others are as they were.
-use lib.ListN.{length, take, drop, set, replicate, length-set, drop_of_length-le}
+use lib.ListN.{length, take, set, replicate, length-set, drop_of_length-le}
 use native.Mathlib.Omega.{arith}
 use mathlib.Core.List.{List, ◌++◌, append-nil}
 use mathlib.Core.Path.{◌≡◌, refl, ap, ◌∙◌}
-use Prim.Native.Nat.{ℕ, ◌-◌, ◌+◌, ◌*◌, ◌≤◌}
+use Prim.Native.Nat.{ℕ, ◌-◌, ◌*◌}
 use Rattle.row.specs.Clearing.{cleared_none, cleared_more}
 use Rattle.row.specs.Rows.{row_words}
 use Rattle.row.proofs.clear_behind.Goals as goal

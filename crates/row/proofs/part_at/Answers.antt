@@ -1,7 +1,6 @@
 -- The first word tells whether there is a part, and the next two are its position and length.
 use Rattle.row.specs.Rows.{part_at}
 use borrow.Author.Tests.{eq-eqb, ne_eqb}
-use borrow.Author.Rules.{rules}
 use Rattle.row.proofs.part_at.Goals as goal
 
 pub returns-then-table-at-ne1 : goal.returns-then-table-at-ne1

@@ -2,7 +2,6 @@
 use lib.ListN.{length-set}
 use native.Mathlib.Numerals.{towards_suc}
 use native.Mathlib.Omega.{arith}
-use borrow.Author.Rules.{rules}
 use Rattle.row.proofs.put_part.Goals as goal
 
 pub bounds-table-at-in-None : goal.bounds-table-at-in-None

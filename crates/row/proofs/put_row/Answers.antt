@@ -7,7 +7,6 @@ use mathlib.Core.Path.{ap, ◌∙◌}
 use mathlib.Core.List.{List}
 use Rattle.row.specs.RowLaws.{row_stored}
 use Rattle.row.specs.Rows.{put_row, part_words}
-use borrow.Author.Rules.{rules}
 use Rattle.row.proofs.put_row.Goals as goal
 
 pub bounds-table-first-2 : goal.bounds-table-first-2

@@ -1,6 +1,5 @@
 -- Each word is read from its place, and the calls read the name and the part.
 use Rattle.row.specs.Rows.{row_at}
-use borrow.Author.Rules.{rules}
 use Rattle.row.proofs.row_at.Goals as goal
 
 pub returns : goal.returns

@@ -2,7 +2,6 @@
 use Rattle.text.specs.Laws.{decimal_20, then}
 use Rattle.text.specs.Text.{field}
 use native.Mathlib.Omega.{arith}
-use borrow.Author.Rules.{rules}
 use Rattle.text.proofs.put_field.Goals as goal
 
 pub put_decimal-last-requires : goal.put_decimal-last-requires

@@ -1,12 +1,10 @@
 -- After each turn the bytes of the text so far are written.
 use mathlib.Core.Path.{◌≡◌, refl}
 use Rattle.text.specs.Laws.{wrote_more, wrote_none}
-use Rattle.text.specs.Text.{Wrote}
 use lib.Seq.{take-length}
 use lib.ListN.{length, take}
 use borrow.Author.Rules.{rules}
 use native.Mathlib.Omega.{arith}
-use Prim.Native.Nat.{◌+◌, ◌-◌, ◌≤◌}
 use Rattle.text.proofs.put_text.Goals as goal
 
 pub loop-i-init : goal.loop-i-init

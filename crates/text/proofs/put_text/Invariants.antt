@@ -1,11 +1,7 @@
 -- After each turn the bytes of the text so far are written.
-use mathlib.Core.Path.{◌≡◌, refl}
-use Rattle.text.specs.Laws.{wrote_more, wrote_none}
+use mathlib.Core.Path.{◌≡◌}
 use Rattle.text.specs.Text.{Wrote}
-use lib.Seq.{take-length}
 use lib.ListN.{length, take}
-use borrow.Author.Rules.{rules}
-use native.Mathlib.Omega.{arith}
 use Prim.Native.Nat.{◌+◌, ◌-◌, ◌≤◌}
 use Rattle.text.proofs.put_text.Given as goal
 

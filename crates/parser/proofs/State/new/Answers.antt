@@ -1,6 +1,4 @@
 -- The definition makes the same two tests of the widths, so the first that fails decides.
-use borrow.Author.Tests.{not-true, not-false}
-use borrow.Author.Rules.{rules}
 use Rattle.parser.proofs.State.new.Goals as goal
 
 pub returns-then-not-width_allowed : goal.returns-then-not-width_allowed

@@ -1,0 +1,19 @@
+-- The reading of the sizes from the start is the reading of those left from here, turn by turn.
+use Rattle.ohdr_dataspace.specs.Facts.{dimensions_from_none, dimensions_from_more}
+use Rattle.ohdr_dataspace.specs.DataSpaces.{dimensions, dimensions_from}
+use Rattle.format.specs.Steps.{read_bind, read_done}
+use Rattle.format.specs.Format.{read}
+use borrow.Author.Rules.{rules}
+use lib.ListN.{length, replicate}
+use native.Mathlib.Omega.{arith}
+use native.Mathlib.Nat.{sub-zero}
+use mathlib.Core.Path.{◌≡◌}
+use Prim.Native.Nat.{◌-◌, ◌≤◌}
+use Rattle.ohdr_dataspace.proofs.dimensions.Given as goal
+
+abbrev pub invariant-loop-i : goal.invariant-loop-i
+invariant-loop-i l = (l.i ≤ l.n) × (4 ≡ length l.sizes)
+    × (read l.file (dimensions_from l.n l.width l.maximum 0 (replicate 4 0)) l.at ≡ read l.file (dimensions_from (l.n - l.i) l.width l.maximum l.i l.sizes) l.place)
+
+abbrev pub decreases-loop-i : goal.decreases-loop-i
+decreases-loop-i l = l.n - l.i
