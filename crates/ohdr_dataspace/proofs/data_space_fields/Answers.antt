@@ -31,7 +31,7 @@ returns-in-2-clause-few c = c.data_space_2.ensures.few
 
 pub returns-in_default-version-clause-result_value : goal.returns-in_default-version-clause-result_value
 unfolding data_space
-returns-in_default-version-clause-result_value c = λ state. rw (read_number, ← c.le_u8.ensures, c.in-Value.is, ne_eqb _ _ c.in_default-version.rest.0.1, ne_eqb _ _ c.in_default-version.rest.1, read_refuse)
+returns-in_default-version-clause-result_value c = λ state. rw (read_number, ← c.le_u8.ensures, c.in-Value.is, ne_eqb _ _ c.in_default-version.in_default-version-own.rest.0.1, ne_eqb _ _ c.in_default-version.in_default-version-own.rest.1, read_refuse)
 
 pub returns-in_default-version-clause-few : goal.returns-in_default-version-clause-few
 unfolding data_space

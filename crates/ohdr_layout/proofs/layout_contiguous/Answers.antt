@@ -23,4 +23,4 @@ returns-in-Refused c = rw (read_bind, ← c.address.ensures, c.in-Value.is, read
 
 pub returns-in-Read : goal.returns-in-Read
 unfolding contiguous
-returns-in-Read c = rw (read_bind, ← c.address.ensures, c.in-Value.is, read_number, ← c.varint.ensures, c.in-Value-varint.is, lt-ltb _ _ c.if-size-ge268435456.false, read_bind, ← c.raw_data.ensures, c.«data».given.1, read_done)
+returns-in-Read c = rw (read_bind, ← c.address.ensures, c.in-Value.is, read_number, ← c.varint.ensures, c.in-Value-varint.is, lt-ltb _ _ c.if-size-ge268435456.false, read_bind, ← c.raw_data.ensures, c.in-Read.is, read_done)

@@ -31,4 +31,4 @@ returns-in-2 c = rw (read_number, ← c.le_u8.ensures, c.in-Value.is, eq-eqb _ _
 
 pub returns-in_default-class : goal.returns-in_default-class
 unfolding data_layout
-returns-in_default-class c = rw (read_number, ← c.le_u8.ensures, c.in-Value.is, eq-eqb _ _ c.if-version-ne3.false, read_number, ← c.le_u8-2.ensures, c.in-Value-le_u8.is, ne_eqb _ 0 c.in_default-class.rest.0.0.1, ne_eqb _ 1 c.in_default-class.rest.0.1, ne_eqb _ 2 c.in_default-class.rest.1, read_refuse)
+returns-in_default-class c = rw (read_number, ← c.le_u8.ensures, c.in-Value.is, eq-eqb _ _ c.if-version-ne3.false, read_number, ← c.le_u8-2.ensures, c.in-Value-le_u8.is, ne_eqb _ 0 c.in_default-class.in_default-class-own.rest.0.0.1, ne_eqb _ 1 c.in_default-class.in_default-class-own.rest.0.1, ne_eqb _ 2 c.in_default-class.in_default-class-own.rest.1, read_refuse)
