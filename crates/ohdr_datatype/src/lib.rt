@@ -12,7 +12,7 @@ use ohdr_member::member_fields;
 use records::{DataFormat, DataType, OptionDataFormat, OptionU32, Refusal};
 
 // The first eight bytes of a datatype.
-#[derive(Drop)]
+#[derive(Clone, Copy)]
 pub struct DataTypeHeader {
     pub class_and_version: u8,
     pub class_bit_field: u32,
@@ -25,7 +25,7 @@ pub enum HeaderRead {
     Refused(Refusal),
 }
 
-#[derive(Drop)]
+#[derive(Clone, Copy)]
 pub struct FloatProperties {
     pub bit_offset: u16,
     pub bit_precision: u16,
@@ -235,7 +235,7 @@ fn float_format(file: &[u8], at: usize) -> FormatRead
 }
 
 // A member of a compound, with its type.
-#[cycle(compound_list_properties_member_message_data_type_type_properties)]
+#[cycle(types)]
 fn member(file: &[u8], at: usize, version: u8, size: u32, levels: usize) -> Place
     ensures { place_out result ≡ read file.now (memberFormat version size (data_type levels)) at }
 {
@@ -249,7 +249,7 @@ fn member(file: &[u8], at: usize, version: u8, size: u32, levels: usize) -> Plac
 }
 
 // As many members as `count` says.
-#[cycle(compound_list_properties_member_message_data_type_type_properties)]
+#[cycle(types)]
 fn compound(file: &[u8], at: usize, count: u32, version: u8, size: u32, levels: usize) -> FormatRead
     ensures { format_out result ≡ read file.now (times count (memberFormat version size (data_type levels)) plain) at }
 {
@@ -270,7 +270,7 @@ fn compound(file: &[u8], at: usize, count: u32, version: u8, size: u32, levels: 
 }
 
 // The base type of a variable-length type.
-#[cycle(compound_list_properties_member_message_data_type_type_properties)]
+#[cycle(types)]
 fn list_properties(file: &[u8], at: usize, levels: usize) -> FormatRead
     ensures { format_out result ≡ read file.now (list_properties (data_type levels)) at }
 {
@@ -284,7 +284,7 @@ fn list_properties(file: &[u8], at: usize, levels: usize) -> FormatRead
 }
 
 // What follows the header, by its class.
-#[cycle(compound_list_properties_member_message_data_type_type_properties)]
+#[cycle(types)]
 fn type_properties(file: &[u8], at: usize, header: DataTypeHeader, levels: usize) -> FormatRead
     ensures { format_out result ≡ read file.now (properties header (data_type levels)) at }
 {
@@ -314,7 +314,7 @@ fn list_size(header: DataTypeHeader) -> OptionU32
 }
 
 // A datatype. `levels` is how many may stand one inside another.
-#[cycle(compound_list_properties_member_message_data_type_type_properties)]
+#[cycle(types)]
 pub fn message_data_type(file: &[u8], at: usize, levels: usize) -> DataTypeRead
     ensures { data_type_out result ≡ read file.now (data_type levels) at }
 {

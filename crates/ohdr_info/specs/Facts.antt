@@ -1,5 +1,5 @@
 -- What the proofs of the readers cite. Assumes nothing.
-use Rattle.std.specs.Prelude.{ℕ, ◌-◌, ◌≡◌, not, eqb}
+use Rattle.std.specs.Prelude.{ℕ, ◌≡◌, not, eqb}
 use Rattle.std.proofs.Common.{sym}
 use Rattle.std.specs.Int.Bits.{bit_and}
 use Rattle.format.specs.Bits.{bit, bit_test}

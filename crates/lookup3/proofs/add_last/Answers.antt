@@ -1,6 +1,5 @@
 -- Each word is the number in four bytes, those that are not there being zero, added.
 use Rattle.lookup3.specs.Lookup3.{add_block}
-use borrow.Author.Rules.{rules}
 use Rattle.lookup3.proofs.add_last.Goals as goal
 
 pub returns : goal.returns

@@ -1,6 +1,5 @@
 -- The part from one place to the other is the bytes that the definition takes.
 use Rattle.lookup3.specs.Lookup3.{sum_matches}
-use borrow.Author.Rules.{rules}
 use Rattle.lookup3.proofs.checksum_matches.Goals as goal
 
 pub returns : goal.returns

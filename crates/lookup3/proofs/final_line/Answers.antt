@@ -1,6 +1,5 @@
 -- Each word is what its call promises.
 use Rattle.lookup3.specs.Lookup3.{final_line}
-use borrow.Author.Rules.{rules}
 use Rattle.lookup3.proofs.final_line.Goals as goal
 
 pub returns : goal.returns

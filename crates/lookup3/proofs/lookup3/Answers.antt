@@ -2,11 +2,10 @@
 use Rattle.lookup3.specs.declared.Words.{Words}
 use lib.ListN.{length}
 use mathlib.Core.Path.{◌≡◌, ap, ◌∙◌}
-use Prim.Native.Nat.{◌+◌, ◌-◌, ◌/◌, ◌<◌}
+use Prim.Native.Nat.{◌+◌, ◌-◌}
 use borrow.Author.Rules.{rules}
 use native.Mathlib.Omega.{arith}
 use Rattle.lookup3.specs.Laws.{sum_none, sum_some, blocks_more, blocks_last}
-use Rattle.lookup3.specs.Lookup3.{sum_of, blocks}
 use Rattle.lookup3.proofs.lookup3.Goals as goal
 
 pub returns-then-length-eq0 : goal.returns-then-length-eq0

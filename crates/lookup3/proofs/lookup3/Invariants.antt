@@ -1,11 +1,6 @@
 -- The sum from the start is the sum from here on, of what is left and with the words mixed so far.
-use Rattle.lookup3.specs.declared.Words.{Words}
-use lib.ListN.{length}
-use mathlib.Core.Path.{◌≡◌, ap, ◌∙◌}
-use Prim.Native.Nat.{◌+◌, ◌-◌, ◌/◌, ◌<◌}
-use borrow.Author.Rules.{rules}
-use native.Mathlib.Omega.{arith}
-use Rattle.lookup3.specs.Laws.{sum_none, sum_some, blocks_more, blocks_last}
+use mathlib.Core.Path.{◌≡◌}
+use Prim.Native.Nat.{◌-◌, ◌/◌, ◌<◌}
 use Rattle.lookup3.specs.Lookup3.{sum_of, blocks}
 use Rattle.lookup3.proofs.lookup3.Given as goal
 

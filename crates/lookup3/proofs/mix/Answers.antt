@@ -1,6 +1,5 @@
 -- Six lines, each what its call promises.
 use Rattle.lookup3.specs.Lookup3.{mix}
-use borrow.Author.Rules.{rules}
 use Rattle.lookup3.proofs.mix.Goals as goal
 
 pub returns : goal.returns

@@ -1,6 +1,5 @@
 -- The remainder of the length may be taken before.
 use Rattle.lookup3.specs.Laws.{started}
-use borrow.Author.Rules.{rules}
 use Rattle.lookup3.proofs.start.Goals as goal
 
 pub returns : goal.returns

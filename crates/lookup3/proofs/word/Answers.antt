@@ -5,7 +5,6 @@ use mathlib.Core.Path.{sym, ◌∙◌}
 use Rattle.format.specs.BytesLaws.{le_below}
 use Rattle.lookup3.specs.Laws.{le_past, le_cut}
 use native.Mathlib.Omega.{arith}
-use borrow.Author.Rules.{rules}
 use Rattle.lookup3.proofs.word.Goals as goal
 
 pub returns-then-part-at : goal.returns-then-part-at

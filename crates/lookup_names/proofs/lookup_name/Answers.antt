@@ -1,7 +1,6 @@
 -- Both tests together say that the name lies in the text; then the answer is the single lookup's.
 use native.Mathlib.Omega.{arith}
 use Rattle.lookup_names.specs.Facts.{leaving, looked_up, row_below}
-use borrow.Author.Rules.{rules}
 use Rattle.lookup_names.proofs.lookup_name.Goals as goal
 
 pub returns-then-text-position : goal.returns-then-text-position

@@ -1,11 +1,10 @@
 -- After each turn one name more has its answer, and zeros stand behind it.
-use Prim.Native.Nat.{◌-◌, ◌/◌, ◌≤◌}
+use Prim.Native.Nat.{◌/◌}
 use mathlib.Core.Path.{◌≡◌, refl, ◌∙◌}
 use mathlib.Core.Logic.{inl, inr}
 use Rattle.row.specs.Clearing.{cleared_all}
 use lib.ListN.{length}
 use native.Mathlib.Omega.{arith}
-use Rattle.lookup_names.specs.Names.{Answers}
 use Rattle.lookup_names.specs.Facts.{none_answered, one_more, all_answered}
 use borrow.Author.Rules.{rules}
 use Rattle.lookup_names.proofs.lookup_names.Goals as goal

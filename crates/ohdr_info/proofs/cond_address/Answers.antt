@@ -1,7 +1,6 @@
 -- Present, the address is what the call reads; absent, it is zero and nothing is read.
 use Rattle.format.specs.Steps.{read_done}
 use Rattle.ohdr_info.specs.Info.{cond_address}
-use borrow.Author.Rules.{rules}
 use Rattle.ohdr_info.proofs.cond_address.Goals as goal
 
 pub returns-then-present : goal.returns-then-present

@@ -3,7 +3,6 @@ use Rattle.format.specs.Steps.{read_number, read_bind, read_done, read_refuse}
 use borrow.Author.Tests.{eq-eqb, ne_eqb}
 use Rattle.ohdr_info.specs.Info.{attribute_info}
 use Rattle.ohdr_info.specs.Facts.{flag_0, flag_1}
-use borrow.Author.Rules.{rules}
 use Rattle.ohdr_info.proofs.message_attribute_info.Goals as goal
 
 pub returns-in_default : goal.returns-in_default

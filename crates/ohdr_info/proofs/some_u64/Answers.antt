@@ -1,5 +1,4 @@
 -- Case by case, present or absent.
-use borrow.Author.Rules.{rules}
 use Rattle.ohdr_info.proofs.some_u64.Goals as goal
 
 pub returns-then-present : goal.returns-then-present

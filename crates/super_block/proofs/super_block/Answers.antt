@@ -41,4 +41,6 @@ returns-in-Refused-clause-widths_read c = tt
 
 pub returns-else-not-checksum_matches : goal.returns-else-not-checksum_matches
 unfolding super_block_of
-returns-else-not-checksum_matches c = with_widths c.args.file.now (blocks.Read c.in-Read.block c.in-Read.at) (rw (le-leb _ _ c.if-file-gt-FILE_LIMIT.false, ← c.super_block_fields.ensures, c.in-Read.is, ← c.checksum_matches.ensures, c.if-not-checksum_matches.false))
+returns-else-not-checksum_matches c =
+    let h = with_widths c.args.file.now (blocks.Read c.in-Read.block c.in-Read.at) (rw (le-leb _ _ c.if-file-gt-FILE_LIMIT.false, ← c.super_block_fields.ensures, c.in-Read.is, ← c.checksum_matches.ensures, c.if-not-checksum_matches.false)) in
+    record { result_value = h.0; widths_read = h.1 }

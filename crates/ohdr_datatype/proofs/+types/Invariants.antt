@@ -1,0 +1,34 @@
+-- A type inside a type has one level less, so the calls end; members are read in a loop, turn by turn.
+use Rattle.ohdr_datatype.specs.Facts.{class_is, class_not, low_two_bytes, type_none, type_more}
+use Rattle.ohdr_datatype.specs.DataTypes.{member as memberFormat, data_type, type_layer, plain, properties, list_properties}
+use Rattle.format.specs.Steps.{read_done, read_refuse, read_bind, times_none, times_more}
+use Rattle.format.specs.Format.{read, times}
+use borrow.Author.Rules.{rules}
+use native.Mathlib.Omega.{arith}
+use mathlib.Core.Logic.{⊎_elim, inl, inr}
+use mathlib.Core.Path.{◌≡◌, refl}
+use Prim.Native.Nat.{ℕ, ◌+◌, ◌*◌, ◌<◌}
+use Rattle.ohdr_datatype.proofs.+types.Given as goal
+
+abbrev pub invariant-compound-loop-left : goal.invariant-compound-loop-left
+invariant-compound-loop-left l =
+    read l.file (times l.count (memberFormat l.version l.size (data_type l.levels)) plain) l.at
+    ≡ read l.file (times l.left (memberFormat l.version l.size (data_type l.levels)) plain) l.place
+
+abbrev pub decreases-compound-loop-left : goal.decreases-compound-loop-left
+decreases-compound-loop-left l = l.left
+
+abbrev pub decreases-compound : goal.decreases-compound
+decreases-compound l = 6 * l.levels + 3
+
+abbrev pub decreases-list_properties : goal.decreases-list_properties
+decreases-list_properties l = 6 * l.levels + 4
+
+abbrev pub decreases-member : goal.decreases-member
+decreases-member l = 6 * l.levels + 2
+
+abbrev pub decreases-message_data_type : goal.decreases-message_data_type
+decreases-message_data_type l = 6 * l.levels
+
+abbrev pub decreases-type_properties : goal.decreases-type_properties
+decreases-type_properties l = 6 * l.levels + 5
