@@ -5,7 +5,6 @@ use Rattle.format.specs.Steps.{read_number, read_skip, read_refuse}
 use Rattle.ohdr_dataspace.specs.DataSpaces.{data_space1}
 use Rattle.ohdr_dataspace.specs.Answers.{data_space_sizes}
 use Rattle.ohdr_dataspace.specs.Facts.{reserved_bytes}
-use borrow.Author.Rules.{rules}
 use Rattle.ohdr_dataspace.proofs.data_space_1.Goals as goal
 
 pub returns-in_default-clause-by_index : goal.returns-in_default-clause-by_index

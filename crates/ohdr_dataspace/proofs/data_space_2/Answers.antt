@@ -3,7 +3,6 @@ use borrow.Author.Tests.{le-leb, lt-leb}
 use Rattle.format.specs.Steps.{read_number, read_refuse}
 use Rattle.ohdr_dataspace.specs.DataSpaces.{data_space2}
 use Rattle.ohdr_dataspace.specs.Answers.{data_space_sizes}
-use borrow.Author.Rules.{rules}
 use Rattle.ohdr_dataspace.proofs.data_space_2.Goals as goal
 
 pub returns-in_default-clause-by_index : goal.returns-in_default-clause-by_index

@@ -2,7 +2,6 @@
 use borrow.Author.Tests.{ne_eqb}
 use Rattle.format.specs.Steps.{read_number, read_refuse}
 use Rattle.ohdr_dataspace.specs.DataSpaces.{data_space}
-use borrow.Author.Rules.{rules}
 use Rattle.ohdr_dataspace.proofs.data_space_fields.Goals as goal
 
 pub returns-in_default-clause-result_value : goal.returns-in_default-clause-result_value

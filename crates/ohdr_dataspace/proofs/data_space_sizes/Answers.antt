@@ -2,7 +2,6 @@
 use Rattle.format.specs.Bits.{bit_test}
 use Rattle.format.specs.Steps.{read_bind, read_done}
 use Rattle.ohdr_dataspace.specs.Answers.{data_space_sizes}
-use borrow.Author.Rules.{rules}
 use Rattle.ohdr_dataspace.proofs.data_space_sizes.Goals as goal
 
 pub returns-in-Refused-clause-result_value : goal.returns-in-Refused-clause-result_value

@@ -1,9 +1,7 @@
 -- The size is one step of the format, and the tests of it are the format's own.
-use borrow.Author.Tests.{eq-eqb, ne_eqb, le-leb, lt-leb, not-true, not-false}
-use borrow.Author.Rules.{rules}
+use borrow.Author.Tests.{eq-eqb, ne_eqb, le-leb, lt-leb}
 use Rattle.format.specs.Steps.{read_done, read_refuse, read_number}
 use Rattle.ohdr_dataspace.specs.DataSpaces.{dimension}
-use borrow.Author.Rules.{rules}
 use Rattle.ohdr_dataspace.proofs.dimension.Goals as goal
 
 pub returns-in_default : goal.returns-in_default

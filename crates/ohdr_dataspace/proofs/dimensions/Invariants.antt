@@ -1,12 +1,7 @@
 -- The reading of the sizes from the start is the reading of those left from here, turn by turn.
-use Rattle.ohdr_dataspace.specs.Facts.{dimensions_from_none, dimensions_from_more}
-use Rattle.ohdr_dataspace.specs.DataSpaces.{dimensions, dimensions_from}
-use Rattle.format.specs.Steps.{read_bind, read_done}
+use Rattle.ohdr_dataspace.specs.DataSpaces.{dimensions_from}
 use Rattle.format.specs.Format.{read}
-use borrow.Author.Rules.{rules}
 use lib.ListN.{length, replicate}
-use native.Mathlib.Omega.{arith}
-use native.Mathlib.Nat.{sub-zero}
 use mathlib.Core.Path.{◌≡◌}
 use Prim.Native.Nat.{◌-◌, ◌≤◌}
 use Rattle.ohdr_dataspace.proofs.dimensions.Given as goal

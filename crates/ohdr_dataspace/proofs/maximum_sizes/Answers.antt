@@ -1,7 +1,6 @@
 -- Where they are present, what the call reads is the answer; else there are none.
 use Rattle.ohdr_dataspace.specs.DataSpaces.{maximum_sizes}
 use Rattle.format.specs.Steps.{read_done}
-use borrow.Author.Rules.{rules}
 use Rattle.ohdr_dataspace.proofs.maximum_sizes.Goals as goal
 
 pub returns-then-present : goal.returns-then-present

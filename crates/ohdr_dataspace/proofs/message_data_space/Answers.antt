@@ -1,5 +1,4 @@
 -- The fields go on with the sizes, which the call reads; a refusal has the default.
-use borrow.Author.Rules.{rules}
 use Rattle.ohdr_dataspace.proofs.message_data_space.Goals as goal
 
 pub data_space_sizes-requires : goal.data_space_sizes-requires

@@ -3,7 +3,6 @@ use lib.Seq.{take_all}
 use lib.Seq.{length-take-le}
 use native.Mathlib.Omega.{arith}
 use mathlib.Core.Path.{sym}
-use borrow.Author.Rules.{rules}
 use Rattle.ohdr_layout.proofs.contiguous_bytes.Goals as goal
 
 pub returns-then-from-size : goal.returns-then-from-size

@@ -5,7 +5,6 @@ use Rattle.ohdr_layout.specs.Facts.{part_cut, part_whole}
 use borrow.Author.Tests.{lt-leb, le-leb}
 use Rattle.format.specs.Steps.{bytes_room}
 use native.Mathlib.Omega.{arith}
-use borrow.Author.Rules.{rules}
 use Rattle.ohdr_layout.proofs.data_at.Goals as goal
 
 pub returns-then-file-address : goal.returns-then-file-address

@@ -1,8 +1,6 @@
 -- The data are read by the call, and the test of the address is the format's own.
-use borrow.Author.Tests.{not-true, not-false}
 use Rattle.format.specs.Steps.{read_there, read_done}
 use Rattle.ohdr_layout.specs.DataLayouts.{data_from}
-use borrow.Author.Rules.{rules}
 use Rattle.ohdr_layout.proofs.data_from.Goals as goal
 
 pub returns-then-not-is_address_valid : goal.returns-then-not-is_address_valid

@@ -1,7 +1,6 @@
 -- The size is one step of the format, and so are the bytes passed over.
 use Rattle.ohdr_layout.specs.DataLayouts.{compact}
 use Rattle.format.specs.Steps.{read_number, read_skip, read_done}
-use borrow.Author.Rules.{rules}
 use Rattle.ohdr_layout.proofs.layout_compact.Goals as goal
 
 pub returns-in_default : goal.returns-in_default

@@ -2,7 +2,6 @@
 use Rattle.ohdr_layout.specs.DataLayouts.{contiguous}
 use borrow.Author.Tests.{lt-ltb, le-ltb}
 use Rattle.format.specs.Steps.{read_number, read_bind, read_refuse, read_done}
-use borrow.Author.Rules.{rules}
 use Rattle.ohdr_layout.proofs.layout_contiguous.Goals as goal
 
 pub returns-in_default : goal.returns-in_default

@@ -2,7 +2,6 @@
 use Rattle.ohdr_layout.specs.DataLayouts.{data_layout}
 use Rattle.format.specs.Steps.{read_number, read_refuse}
 use borrow.Author.Tests.{eq-eqb, ne_eqb}
-use borrow.Author.Rules.{rules}
 use Rattle.ohdr_layout.proofs.message_data_layout.Goals as goal
 
 pub returns-in_default : goal.returns-in_default

@@ -1,7 +1,6 @@
 -- Undefined, there are none; else what the call reads.
 use Rattle.format.specs.Steps.{read_done}
 use Rattle.ohdr_layout.specs.DataLayouts.{raw_data_lem}
-use borrow.Author.Rules.{rules}
 use Rattle.ohdr_layout.proofs.raw_data.Goals as goal
 
 pub returns-in-Undefined : goal.returns-in-Undefined

@@ -3,7 +3,6 @@ use Rattle.format.specs.Steps.{read_done, read_refuse, read_number, read_skip, r
 use Rattle.ohdr_member.specs.Members.{member1}
 use Rattle.ohdr_member.specs.Facts.{padding, unused1_read}
 use borrow.Author.Tests.{eq-eqb, ne_eqb}
-use borrow.Author.Rules.{rules}
 use Rattle.ohdr_member.proofs.member_1.Goals as goal
 
 pub returns-in_default : goal.returns-in_default

@@ -2,7 +2,6 @@
 use Rattle.format.specs.Steps.{read_done, read_number, read_skip, read_name}
 use Rattle.ohdr_member.specs.Members.{member3}
 use borrow.Author.Tests.{lt-ltb, le-ltb}
-use borrow.Author.Rules.{rules}
 use Rattle.ohdr_member.proofs.member_3.Goals as goal
 
 pub returns-in_default : goal.returns-in_default

@@ -1,7 +1,6 @@
 -- The version chooses the fields, and what the call reads is the answer.
 use Rattle.ohdr_member.specs.Members.{member_fields}
 use borrow.Author.Tests.{eq-eqb, ne_eqb}
-use borrow.Author.Rules.{rules}
 use Rattle.ohdr_member.proofs.member_fields.Goals as goal
 
 pub returns-then-version-eq3 : goal.returns-then-version-eq3

@@ -1,10 +1,7 @@
 -- The reading of all filters from the start is the reading of those left from here, turn by turn.
-use Rattle.ohdr_storage.specs.Storage.{filter_of}
 use Rattle.format.specs.Steps.{read_bind, read_done, times_more, times_none}
-use Rattle.format.specs.Format.{read, times, nothing}
-use borrow.Author.Rules.{rules}
 use native.Mathlib.Omega.{arith}
-use mathlib.Core.Path.{◌≡◌, refl}
+use mathlib.Core.Path.{◌≡◌}
 use Rattle.ohdr_storage.proofs.all_filters.Goals as goal
 
 pub returns-in-Refused : goal.returns-in-Refused

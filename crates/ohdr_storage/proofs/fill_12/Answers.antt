@@ -8,7 +8,6 @@ use borrow.Author.Tests.{ne_eqb, eq-eqb, lt-leb, le-leb}
 use Rattle.format.specs.Steps.{read_number, read_refuse, read_done}
 use Rattle.ohdr_storage.specs.Storage.{fill12}
 use Rattle.ohdr_storage.specs.Facts.{first_of, second_of, none_of}
-use borrow.Author.Rules.{rules}
 use Rattle.ohdr_storage.proofs.fill_12.Goals as goal
 use Rattle.ohdr_storage.proofs.fill_12.Goals.{else-allocation-ne2-via-then-allocation-ne2+else-allocation-ne3 as second, else-allocation-ne2-via-else-allocation-ne2 as first}
 

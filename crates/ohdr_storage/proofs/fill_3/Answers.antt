@@ -2,7 +2,6 @@
 use Rattle.ohdr_storage.specs.Storage.{fill3}
 use Rattle.format.specs.Bits.{bit_set, bit_clear}
 use Rattle.format.specs.Steps.{read_number, read_done}
-use borrow.Author.Rules.{rules}
 use Rattle.ohdr_storage.proofs.fill_3.Goals as goal
 
 pub returns-in_default : goal.returns-in_default

@@ -1,7 +1,6 @@
 -- The version chooses the filter, and what the call reads is the answer.
 use Rattle.ohdr_storage.specs.Storage.{filter_of}
 use borrow.Author.Tests.{ne_eqb}
-use borrow.Author.Rules.{rules}
 use Rattle.ohdr_storage.proofs.filter.Goals as goal
 
 pub returns-then-version-eq1 : goal.returns-then-version-eq1

@@ -2,7 +2,6 @@
 use Rattle.ohdr_storage.specs.Storage.{filter1}
 use borrow.Author.Tests.{lt-leb, le-leb}
 use Rattle.format.specs.Steps.{read_number, read_skip, read_refuse, read_done}
-use borrow.Author.Rules.{rules}
 use Rattle.ohdr_storage.proofs.filter_1.Goals as goal
 
 pub returns-in_default : goal.returns-in_default

@@ -5,7 +5,6 @@ use Rattle.format.specs.Steps.{read_number, read_refuse}
 use borrow.Author.Tests.{ne_eqb}
 use native.Mathlib.Omega.{arith}
 use mathlib.Core.Path.{◌≡◌}
-use borrow.Author.Rules.{rules}
 use Rattle.ohdr_storage.proofs.message_data_fill.Goals as goal
 
 pub returns-in_default : goal.returns-in_default

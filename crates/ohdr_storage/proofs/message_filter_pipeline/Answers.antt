@@ -8,7 +8,6 @@ use borrow.Author.Tests.{eq-eqb, ne_eqb, le-ltb, lt-ltb}
 use Rattle.format.specs.Steps.{read_number, read_bind, read_refuse}
 use Rattle.ohdr_storage.specs.Storage.{filter_pipeline}
 use Rattle.ohdr_storage.specs.Facts.{first_of, second_of, none_of}
-use borrow.Author.Rules.{rules}
 use Rattle.ohdr_storage.proofs.message_filter_pipeline.Goals as goal
 use Rattle.ohdr_storage.proofs.message_filter_pipeline.Goals.{else-version-ne1-via-then-version-ne1+else-version-ne2 as second, else-version-ne1-via-else-version-ne1 as first}
 

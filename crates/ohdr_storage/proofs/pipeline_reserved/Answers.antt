@@ -2,7 +2,6 @@
 use Rattle.ohdr_storage.specs.Storage.{reserved}
 use borrow.Author.Tests.{ne_eqb, eq-eqb}
 use Rattle.format.specs.Steps.{read_number, read_refuse, read_done}
-use borrow.Author.Rules.{rules}
 use Rattle.ohdr_storage.proofs.pipeline_reserved.Goals as goal
 
 pub returns-then-version-ne1 : goal.returns-then-version-ne1

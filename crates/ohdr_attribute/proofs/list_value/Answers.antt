@@ -1,0 +1,18 @@
+-- The size is tested as the format tests it, and then that many bytes are passed over.
+use Rattle.ohdr_attribute.specs.Attributes.{list_value}
+use Rattle.format.specs.Steps.{read_skip, read_refuse, read_done}
+use borrow.Author.Tests.{le-leb, lt-leb}
+use borrow.Author.Rules.{rules}
+use Rattle.ohdr_attribute.proofs.list_value.Goals as goal
+
+pub returns-then-size-gt12 : goal.returns-then-size-gt12
+unfolding list_value
+returns-then-size-gt12 c = rw (lt-leb _ _ c.if-size-gt12.true, read_refuse)
+
+pub returns-in_default : goal.returns-in_default
+unfolding list_value
+returns-in_default c = rw (le-leb _ _ c.if-size-gt12.false, read_skip, ← c.take.ensures, c.in_default.is)
+
+pub returns : goal.returns
+unfolding list_value
+returns c = rw (le-leb _ _ c.if-size-gt12.false, read_skip, ← c.take.ensures, c.in-At.is, read_done)
