@@ -8,7 +8,6 @@ use Rattle.format.specs.OrderLaws.{swap_below}
 use Rattle.element_number.specs.Values.{element}
 use Rattle.number_form.specs.Sizes.{small_size}
 use Rattle.element_number.specs.Facts.{number_below}
-use borrow.Author.Rules.{rules}
 use Rattle.element_number.proofs.element.Goals as goal
 
 pub varint-requires : goal.varint-requires

@@ -1,7 +1,6 @@
 -- By the form; a single's element has 32 bits.
 use mir.Syntax.{w64}
 use mir.ValLaws.{to_z-of_z}
-use borrow.Author.Rules.{rules}
 use Rattle.element_number.proofs.number_of.Goals as goal
 
 pub half_of-requires : goal.half_of-requires

@@ -2,7 +2,6 @@
 use Rattle.format.specs.Steps.{read_bind, read_done}
 use Rattle.element_number.specs.Values.{number_value}
 use Rattle.number_form.specs.Sizes.{sized_whole}
-use borrow.Author.Rules.{rules}
 use Rattle.element_number.proofs.number_value.Goals as goal
 
 pub element-requires : goal.element-requires

@@ -1,6 +1,5 @@
 -- From half on a number is as far below zero as it lacks of all.
 use Rattle.element_number.specs.Facts.{made_fits, made_low, made_high}
-use borrow.Author.Rules.{rules}
 use Rattle.element_number.proofs.signed_of.Goals as goal
 
 pub overflow_sub-result-else-v-half-3 : goal.overflow_sub-result-else-v-half-3

@@ -1,7 +1,6 @@
 -- A float that differs from itself is the NaN, whose bits are a constant; any other has its own.
 use lib.Ieee.{binary32, to_bits}
 use Rattle.element_number.specs.BitFacts.{nan_bits, no_nan}
-use borrow.Author.Rules.{rules}
 use Rattle.element_number.proofs.single_bits.Goals as goal
 
 pub float_to_bits-result : goal.float_to_bits-result

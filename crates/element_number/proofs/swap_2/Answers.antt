@@ -1,7 +1,6 @@
 -- Two bytes, written out.
 use Rattle.format.specs.Bytes.{swap}
 use native.Mathlib.Omega.{arith}
-use borrow.Author.Rules.{rules}
 use Rattle.element_number.proofs.swap_2.Goals as goal
 
 pub returns : goal.returns

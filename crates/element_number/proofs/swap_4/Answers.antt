@@ -1,7 +1,6 @@
 -- Twice two bytes, by the law that splits a swap.
 use Rattle.format.specs.OrderLaws.{swap_split}
 use native.Mathlib.Omega.{arith}
-use borrow.Author.Rules.{rules}
 use Rattle.element_number.proofs.swap_4.Goals as goal
 
 pub returns : goal.returns

@@ -2,7 +2,6 @@
 use Rattle.number_form.specs.Sizes.{last_size}
 use Rattle.format.specs.Bytes.{swap}
 use native.Mathlib.Omega.{arith}
-use borrow.Author.Rules.{rules}
 use Rattle.element_number.proofs.swap_of.Goals as goal
 
 pub returns-in-1 : goal.returns-in-1

@@ -2,7 +2,6 @@
 use borrow.Author.Tests.{eq-eqb, ne_eqb}
 use Rattle.format.specs.Steps.{read_number, read_bind, read_done, read_refuse}
 use Rattle.super_block.specs.SuperBlocks.{addresses}
-use borrow.Author.Rules.{rules}
 use Rattle.super_block.proofs.addresses.Goals as goal
 
 pub returns-in_default : goal.returns-in_default

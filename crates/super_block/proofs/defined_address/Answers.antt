@@ -1,7 +1,6 @@
 -- The address is read by the call, and its case is the format's own.
 use Rattle.format.specs.Steps.{read_bind, read_refuse, read_done}
 use Rattle.helpers.specs.Addresses.{defined_address}
-use borrow.Author.Rules.{rules}
 use Rattle.super_block.proofs.defined_address.Goals as goal
 
 pub returns-in_default : goal.returns-in_default

@@ -1,6 +1,6 @@
 -- The file's size, the fields and the checksum are tested in the definition's order; the checksum lies in the file, since the fields do.
 use native.Mathlib.Omega.{arith}
-use borrow.Author.Tests.{le-leb, lt-leb, not-true, not-false}
+use borrow.Author.Tests.{le-leb, lt-leb}
 use Rattle.helpers.specs.Facts.{met}
 use Rattle.super_block.specs.Answers.{super_block_out}
 use Rattle.super_block.specs.declared.SuperBlockRead.TheVariants as blocks

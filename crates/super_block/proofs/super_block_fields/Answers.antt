@@ -1,6 +1,6 @@
 -- Each field and its test is one step of the format; the addresses are the rest of it.
 use native.Mathlib.Omega.{arith}
-use borrow.Author.Tests.{eq-eqb, ne_eqb, not-true, not-false}
+use borrow.Author.Tests.{eq-eqb, ne_eqb}
 use Rattle.format.specs.Steps.{read_number, read_refuse}
 use Rattle.super_block.specs.SuperBlocks.{super_block}
 use Rattle.super_block.specs.Laws.{version_other, version_known, allowed_most}
