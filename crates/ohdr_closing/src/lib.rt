@@ -16,7 +16,7 @@ use row::{Row, put_row};
 
 // How many entries are allowed and what refuses the next, how many rows there are, and whether the
 // messages beyond them are counted alone, as where there is no table, or refused.
-#[derive(Drop)]
+#[derive(Clone, Copy)]
 pub struct Limits {
     pub entries: usize,
     pub beyond: Refusal,
@@ -25,7 +25,7 @@ pub struct Limits {
 }
 
 // How far a walk has come: the next position, the rows taken, the entries begun.
-#[derive(Drop)]
+#[derive(Clone, Copy)]
 pub struct Progress {
     pub at: usize,
     pub rows: usize,

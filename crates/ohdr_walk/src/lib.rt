@@ -15,7 +15,7 @@ use parser::State;
 use records::Refusal;
 
 // What does not change while a header is walked: the state of the file, and the header's flags.
-#[derive(Drop)]
+#[derive(Clone, Copy)]
 pub struct Header {
     pub state: State,
     pub flags: u8,
@@ -54,7 +54,7 @@ fn again_limits(limits: Limits) -> Limits
 
 // An entry, and where it is a continuation the block that it opens. `levels` more levels of blocks
 // are allowed.
-#[cycle(message_block_message_entry)]
+#[cycle(blocks)]
 fn message_entry(
     file: &[u8],
     table: &mut [u64],
@@ -107,7 +107,7 @@ fn message_entry(
 
 // Entries from a position on, while position plus prefix is at most the end: a header's own, or a
 // block's.
-#[cycle(message_block_message_entry)]
+#[cycle(blocks)]
 fn message_block(
     file: &[u8],
     table: &mut [u64],

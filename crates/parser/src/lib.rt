@@ -11,7 +11,7 @@ use records::Refusal;
 pub const FILE_LIMIT: usize = 2147483648;
 
 // The widths are in bytes.
-#[derive(Drop)]
+#[derive(Clone, Copy)]
 pub struct State {
     pub size_of_lengths: usize,
     pub size_of_offsets: usize,

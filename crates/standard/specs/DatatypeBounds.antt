@@ -7,7 +7,7 @@ use Rattle.std.proofs.Math.Logic.{inr}
 use mathlib.Core.List.{List}
 use native.Mathlib.Omega.{arith}
 use Rattle.std.proofs.Math.Dec.{eqb}
-use Rattle.std.proofs.Math.ListN.{length, get_or}
+use Rattle.std.proofs.Math.ListN.{get_or}
 use borrow.Author.Tests.{eqb-true}
 use Rattle.format.specs.Bytes.{le, Named}
 use Rattle.format.specs.Format.{Format, done, number, Stands, bind}

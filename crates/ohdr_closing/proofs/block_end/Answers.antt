@@ -1,10 +1,8 @@
 -- The bytes up to the end are passed over as the format does, so the checksum's bytes are in the file.
 use native.Mathlib.Omega.{arith}
-use borrow.Author.Tests.{not-true, not-false}
 use Rattle.format.specs.Steps.{read_skip, read_refuse, read_done}
 use Rattle.grammar.specs.Grammar.{block_end}
 use Rattle.ohdr_closing.specs.Closing.{taken}
-use borrow.Author.Rules.{rules}
 use Rattle.ohdr_closing.proofs.block_end.Goals as goal
 
 pub returns-in_default : goal.returns-in_default

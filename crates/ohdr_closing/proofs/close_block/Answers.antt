@@ -3,7 +3,6 @@ use Rattle.grammar.specs.WalkLaws.{found_then, refused_then}
 use Rattle.helpers.specs.Answers.{place_out}
 use Rattle.helpers.specs.Facts.{met}
 use mathlib.Core.Path.{sym}
-use borrow.Author.Rules.{rules}
 use Rattle.ohdr_closing.proofs.close_block.Goals as goal
 
 pub returns-in-Refused : goal.returns-in-Refused

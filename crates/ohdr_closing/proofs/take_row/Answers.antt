@@ -1,5 +1,4 @@
 -- A message takes the next row of the table; beyond the last it is counted alone, or refused, and so by the definition.
-use borrow.Author.Rules.{rules}
 use Rattle.ohdr_closing.specs.Taking.{stored, counted, no_row}
 use Rattle.ohdr_closing.proofs.take_row.Goals as goal
 
