@@ -1,0 +1,19 @@
+-- The definition reads the header's fields and then walks its messages, and so do the two calls.
+use mathlib.Core.Path.{◌∙◌}
+use native.Mathlib.Omega.{arith}
+use Rattle.ohdr_closing.specs.Answers.{limits_of}
+use Rattle.data_object_messages.specs.Laws.{fields_refused, fields_read, fields_bound}
+use borrow.Author.Rules.{rules}
+use Rattle.data_object_messages.proofs.header_messages.Goals as goal
+
+pub overflow_add-end : goal.overflow_add-end
+overflow_add-end c = let a = c.args in omega (arith, c.requires, fields_bound a.file.now a.state a.position (limits_of a.limits) a.table.now c.header_fields.ensures c.in-Read.is)
+
+pub collect_all_messages-requires : goal.collect_all_messages-requires
+collect_all_messages-requires c = let a = c.args in let b = fields_bound a.file.now a.state a.position (limits_of a.limits) a.table.now c.header_fields.ensures c.in-Read.is in (c.requires.0, c.requires.2, b.1, omega (arith, b.0))
+
+pub returns-in-Refused : goal.returns-in-Refused
+returns-in-Refused c = let a = c.args in fields_refused a.file.now a.state a.position (limits_of a.limits) a.table.now c.header_fields.ensures c.in-Refused.is
+
+pub returns-in-Read : goal.returns-in-Read
+returns-in-Read c = let a = c.args in c.collect_all_messages.ensures ∙ fields_read a.file.now a.state a.position (limits_of a.limits) a.table.now c.header_fields.ensures c.in-Read.is
