@@ -1,5 +1,5 @@
 -- Each turn runs the case that begins here, and its parts stand in the file in their order.
-use Rattle.std.proofs.Common.{rules, arith}
+use Rattle.std.proofs.Common.{rules}
 use Rattle.test_runner.specs.Laws.{case_order}
 use Rattle.test_runner.specs.Runs.{going_begins, going_on}
 use Rattle.test_runner.proofs.run.Goals as goal

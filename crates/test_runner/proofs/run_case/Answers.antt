@@ -1,5 +1,5 @@
 -- The ends of the three parts give the input and what is expected, and the call compares them.
-use Rattle.std.proofs.Common.{rules, arith}
+use Rattle.std.proofs.Common.{rules}
 use Rattle.test_runner.specs.Laws.{case_order, input_is, expected_is}
 use Rattle.test_runner.proofs.run_case.Goals as goal
 
