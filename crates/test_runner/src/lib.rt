@@ -242,7 +242,8 @@ fn tell_not_run(rt: &impl Print, path: &[u8], why: &str) -> io::Result<()> {
     rt.println(why)
 }
 
-// Writes the last line of a run. Its error is that of the write that failed, and no contract speaks of what is written.
+// Writes the last line of a run. It yields nothing but a failed write's error, and no contract speaks
+// of what is written.
 pub fn tell(rt: &impl Print, path: &[u8], outcome: FileRun) -> io::Result<()> {
     match outcome {
         FileRun::Ran(s) => tell_count(rt, s),
