@@ -4,22 +4,28 @@
 // and says how many of each it ran.
 #![tactic(auto)]
 
+use std::io;
 use test_replayer::Against;
 use test_runner::{run_file, tell};
 
-fn run_headers(buf: &mut [u8]) {
-    tell(b"cases", run_file(Against::HeaderListing, b"cases", buf));
-    tell(b"messages", run_file(Against::Report, b"messages", buf));
-    tell(b"numbers", run_file(Against::Numbers, b"numbers", buf));
+fn run_headers(rt: &HostRuntime, buf: &mut [u8]) -> io::Result<()> {
+    let cases = run_file(rt, Against::HeaderListing, b"cases", buf);
+    tell(rt, b"cases", cases)?;
+    let messages = run_file(rt, Against::Report, b"messages", buf);
+    tell(rt, b"messages", messages)?;
+    let numbers = run_file(rt, Against::Numbers, b"numbers", buf);
+    tell(rt, b"numbers", numbers)
 }
 
-fn run_files(buf: &mut [u8]) {
-    tell(b"files", run_file(Against::Listing, b"files", buf));
-    run_headers(buf);
-    tell(b"sums", run_file(Against::Sum, b"sums", buf));
+fn run_files(rt: &HostRuntime, buf: &mut [u8]) -> io::Result<()> {
+    let files = run_file(rt, Against::Listing, b"files", buf);
+    tell(rt, b"files", files)?;
+    run_headers(rt, buf)?;
+    let sums = run_file(rt, Against::Sum, b"sums", buf);
+    tell(rt, b"sums", sums)
 }
 
-fn main() {
+fn main(rt: HostRuntime) -> io::Result<()> {
     let mut buf = [0u8; 4194304];
-    run_files(&mut buf);
+    run_files(&rt, &mut buf)
 }

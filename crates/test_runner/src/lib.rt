@@ -2,11 +2,15 @@
 // what is expected of it; each of these parts has its length before it in 4 bytes, the lowest first.
 #![tactic(auto)]
 
-ghost use Rattle.std.specs.Prelude.{◌≡◌, ◌<◌, ◌≤◌};
+ghost use Rattle.std.specs.Prelude.{◌≡◌, ◌<◌, ◌≤◌, length};
 ghost use Rattle.test_replayer.specs.Passes.{Says};
 ghost use Rattle.test_runner.specs.Cases.{Ends, CaseOut, counted, StepIs, Tallied, Loads, RunOf};
 
 use helpers::{ReadU32, le_u32};
+use std::fs::File;
+use std::io::Read;
+use std::rt::Files;
+use std::{io, str};
 use test_replayer::{Against, passes};
 
 // Where a part ends; or it leaves the file.
@@ -111,14 +115,15 @@ fn run_case(against: Against, cases: &[u8], at: usize) -> Step
     Step::Ran(passed, case)
 }
 
-fn tell_failed(name: &[u8]) {
-    io::write_all(1, b"failed: ");
-    io::write_all(1, name);
-    io::write_all(1, b"\n");
+fn tell_failed(rt: &impl Print, name: &[u8]) -> io::Result<()> {
+    rt.print("failed: ")?;
+    rt.write_all(name)?;
+    rt.println("")
 }
 
-// One case more; one that failed is named.
-fn count(tally: Summary, passed: bool, name: &[u8]) -> Summary
+// One case more; one that failed is named. A name that could not be written stops nothing: the case
+// counts as failed all the same.
+fn count(rt: &impl Print, tally: Summary, passed: bool, name: &[u8]) -> Summary
     requires { (tally.run < 18446744073709551615) × (tally.failed ≤ tally.run) }
     ensures { result ≡ counted tally passed }
 {
@@ -129,7 +134,7 @@ fn count(tally: Summary, passed: bool, name: &[u8]) -> Summary
             whole: tally.whole,
         };
     }
-    tell_failed(name);
+    let _ = tell_failed(rt, name);
     Summary {
         run: tally.run + 1,
         failed: tally.failed + 1,
@@ -138,7 +143,7 @@ fn count(tally: Summary, passed: bool, name: &[u8]) -> Summary
 }
 
 // Runs all cases of the file, and names each that fails.
-pub fn run(against: Against, cases: &[u8]) -> Summary
+pub fn run(rt: &impl Print, against: Against, cases: &[u8]) -> Summary
     ensures { Tallied (Says against) cases.now result }
 {
     let mut at = 0;
@@ -158,65 +163,91 @@ pub fn run(against: Against, cases: &[u8]) -> Summary
         };
         let start = at + 4;
         let name_end = case.name_end;
-        tally = count(tally, passed, &cases[start..name_end]);
+        tally = count(rt, tally, passed, &cases[start..name_end]);
         at = case.end;
     }
     tally
 }
 
+// Reads until the buffer is full, the file ends or a read fails, and says how many bytes it put at
+// the buffer's start.
+fn fill(file: &mut impl Read, buf: &mut [u8]) -> usize
+    ensures { result ≤ length buf.new }
+{
+    let mut done = 0;
+    while done < buf.len() {
+        let Ok(more) = file.read(&mut buf[done..]) else {
+            return done;
+        };
+        if more == 0 {
+            return done;
+        }
+        done += more;
+    }
+    done
+}
+
+// Whether the file has ended. A read that fails is no end, and one into no room tells nothing.
+fn is_at_end(file: &mut impl Read, buf: &mut [u8]) -> bool {
+    matches!(file.read(buf), Ok(0))
+}
+
+// The file at a path, where the system opens it. A path of std is text.
+fn open<R: Files>(rt: &R, path: &[u8]) -> Option<R::File> {
+    let text = str::from_utf8(path).ok()?;
+    File::open(rt, text).ok()
+}
+
 // The bytes of the file at a path. A byte of the buffer must stay free, so that a file that does
 // not fit is told apart, and the read after the last byte must answer the file's end.
-fn load(path: &[u8], buf: &mut [u8]) -> Loaded
+fn load(rt: &impl Files, path: &[u8], buf: &mut [u8]) -> Loaded
     ensures { Loads result buf.new }
 {
-    let fd = os::open_read(path);
-    if fd < 0 {
+    let Some(mut file) = open(rt, path) else {
         return Loaded::Failed;
-    }
-    let n = io::read_full(fd, buf);
-    let more = libc::read(fd, &mut buf[n..]);
-    libc::close(fd);
+    };
+    let n = fill(&mut file, buf);
     if n == buf.len() {
         return Loaded::TooLong;
     }
-    if more != 0 {
+    if !is_at_end(&mut file, &mut buf[n..]) {
         return Loaded::Failed;
     }
     Loaded::Whole(n)
 }
 
 // Runs the cases of the file at a path, by way of a buffer that is longer than it.
-pub fn run_file(against: Against, path: &[u8], buf: &mut [u8]) -> FileRun
+pub fn run_file(rt: &(impl Files + Print), against: Against, path: &[u8], buf: &mut [u8]) -> FileRun
     ensures { RunOf (Says against) buf.new result }
 {
-    match load(path, buf) {
-        Loaded::Whole(n) => FileRun::Ran(run(against, &buf[..n])),
+    match load(rt, path, buf) {
+        Loaded::Whole(n) => FileRun::Ran(run(rt, against, &buf[..n])),
         Loaded::TooLong => FileRun::TooLong,
         Loaded::Failed => FileRun::Failed,
     }
 }
 
-fn tell_count(s: Summary) {
-    io::print_decimal(1, s.run);
-    io::write_all(1, b" run, ");
-    io::print_decimal(1, s.failed);
-    io::write_all(1, b" failed");
+fn tell_count(rt: &impl Print, s: Summary) -> io::Result<()> {
+    let run = s.run;
+    let failed = s.failed;
+    print!(rt; "{run} run, {failed} failed")?;
     if !s.whole {
-        io::write_all(1, b", file damaged");
+        rt.print(", file damaged")?;
     }
-    io::write_all(1, b"\n");
+    rt.println("")
 }
 
-fn tell_not_run(path: &[u8], why: &[u8]) {
-    io::write_all(1, path);
-    io::write_all(1, why);
+fn tell_not_run(rt: &impl Print, path: &[u8], why: &str) -> io::Result<()> {
+    rt.write_all(path)?;
+    rt.println(why)
 }
 
-// Writes the last line of a run. It yields nothing, and no contract speaks of what is written.
-pub fn tell(path: &[u8], outcome: FileRun) {
+// Writes the last line of a run. It yields nothing but a failed write's error, and no contract speaks
+// of what is written.
+pub fn tell(rt: &impl Print, path: &[u8], outcome: FileRun) -> io::Result<()> {
     match outcome {
-        FileRun::Ran(s) => tell_count(s),
-        FileRun::TooLong => tell_not_run(path, b" does not fit\n"),
-        FileRun::Failed => tell_not_run(path, b" was not read\n"),
+        FileRun::Ran(s) => tell_count(rt, s),
+        FileRun::TooLong => tell_not_run(rt, path, " does not fit"),
+        FileRun::Failed => tell_not_run(rt, path, " was not read"),
     }
 }
