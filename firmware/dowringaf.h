@@ -41,8 +41,9 @@
  * types fail at the file's last byte reach this: 4,096 of them took 0.3 s in 65,536 bytes, 3 s in
  * 1,048,576 and up to 157 s in 16,777,216 (docs/DECISIONS.md, "The time of a call"). Blocks of
  * nearly a whole file, opened as often as entries allow, took 0.1 s, 0.7 s and 10 s for their
- * checksums in files of about these sizes. Where an answer is due within a time, bound file_bytes,
- * or for a filling without a check table_words.
+ * checksums in files of about these sizes. These times are those of an older compiler of the
+ * library. Where an answer is due within a time, bound file_bytes, or for a filling without a check
+ * table_words.
  *
  * Every struct below is made of 64-bit words, without padding.
  */
