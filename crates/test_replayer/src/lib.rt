@@ -24,7 +24,7 @@ use test_report::{Matched, ends, expect_numbers, expect_report};
 // What is expected of an input: the listing of a plain file; of a header in a file behind the
 // values that are given by hand, its listing with the line of its check, its report, or its
 // numbers; or the sum of its bytes.
-#[derive(Drop)]
+#[derive(Clone, Copy)]
 pub enum Against {
     Listing,
     HeaderListing,
