@@ -31,12 +31,12 @@ returns-in-Refused-clause-out_unchanged c = let w = c.put_refused-in-Refused.ens
 
 pub returns-in-Read-clause-counts : goal.returns-in-Read-clause-counts
 unfolding listing_of root_text
-returns-in-Read-clause-counts c = let l = c.list_header.ensures in l.0
+returns-in-Read-clause-counts c = let l = c.list_header.ensures in l.counts
 
 pub returns-in-Read-clause-out_after : goal.returns-in-Read-clause-out_after
 unfolding listing_of root_text
-returns-in-Read-clause-out_after c = let l = c.list_header.ensures in rw (le-ltb _ _ c.if-file-gt65536.false, ← c.super_block.ensures.result_value, c.in-Read.is) l.1.0
+returns-in-Read-clause-out_after c = let l = c.list_header.ensures in rw (le-ltb _ _ c.if-file-gt65536.false, ← c.super_block.ensures.result_value, c.in-Read.is) l.out_after
 
 pub returns-in-Read-clause-out_unchanged : goal.returns-in-Read-clause-out_unchanged
 unfolding listing_of root_text
-returns-in-Read-clause-out_unchanged c = let l = c.list_header.ensures in l.1.1
+returns-in-Read-clause-out_unchanged c = let l = c.list_header.ensures in l.out_unchanged

@@ -6,25 +6,17 @@ use native.Mathlib.Omega.{arith}
 use Rattle.listing_text.proofs.list_first.Goals as goal
 
 pub returns-then-input-n-clause-counts : goal.returns-then-input-n-clause-counts
-returns-then-input-n-clause-counts c = let a = c.args in
-    let h = c.if-input-n.true in
-    let e = take_all a.n a.input.now (omega (arith, h)) in
-    let l = c.list.ensures in
-    l.0
+returns-then-input-n-clause-counts c = c.list.ensures.counts
 
 pub returns-then-input-n-clause-out_after : goal.returns-then-input-n-clause-out_after
 returns-then-input-n-clause-out_after c = let a = c.args in
     let h = c.if-input-n.true in
     let e = take_all a.n a.input.now (omega (arith, h)) in
     let l = c.list.ensures in
-    rw e l.1.0
+    rw e l.out_after
 
 pub returns-then-input-n-clause-out_unchanged : goal.returns-then-input-n-clause-out_unchanged
-returns-then-input-n-clause-out_unchanged c = let a = c.args in
-    let h = c.if-input-n.true in
-    let e = take_all a.n a.input.now (omega (arith, h)) in
-    let l = c.list.ensures in
-    l.1.1
+returns-then-input-n-clause-out_unchanged c = c.list.ensures.out_unchanged
 
 pub slice_bounds-list-end : goal.slice_bounds-list-end
 slice_bounds-list-end c =

@@ -6,8 +6,8 @@ use Rattle.listing_text.proofs.put_part.Goals as goal
 
 pub returns-in-None : goal.returns-in-None
 unfolding place_of
-returns-in-None c = rw c.in-None.is (then c.put_field-at.ensures.wrote c.put_field.ensures.wrote, search rules)
+returns-in-None c = rw c.in-None.is (record { wrote = then c.put_field-at.ensures.wrote c.put_field.ensures.wrote; upper_bound = search rules })
 
 pub returns-in-Some : goal.returns-in-Some
 unfolding place_of
-returns-in-Some c = rw c.in-Some.is (then c.put_field-at-in-Some.ensures.wrote c.put_field-in-Some.ensures.wrote, search rules)
+returns-in-Some c = rw c.in-Some.is (record { wrote = then c.put_field-at-in-Some.ensures.wrote c.put_field-in-Some.ensures.wrote; upper_bound = search rules })

@@ -1,13 +1,10 @@
 -- A type inside a type has one level less, so the calls end; members are read in a loop, turn by turn.
 use Rattle.ohdr_datatype.specs.Facts.{class_is, class_not, low_two_bytes, type_none, type_more}
-use Rattle.ohdr_datatype.specs.DataTypes.{member as memberFormat, data_type, type_layer, plain, properties, list_properties}
+use Rattle.ohdr_datatype.specs.DataTypes.{member as memberFormat, type_layer, plain, properties, list_properties}
 use Rattle.format.specs.Steps.{read_done, read_refuse, read_bind, times_none, times_more}
-use Rattle.format.specs.Format.{read, times}
-use borrow.Author.Rules.{rules}
 use native.Mathlib.Omega.{arith}
 use mathlib.Core.Logic.{⊎_elim, inl, inr}
-use mathlib.Core.Path.{◌≡◌, refl}
-use Prim.Native.Nat.{ℕ, ◌+◌, ◌*◌, ◌<◌}
+use mathlib.Core.Path.{◌≡◌}
 use Rattle.ohdr_datatype.proofs.+types.Goals as goal
 
 pub compound-returns-in-Refused : goal.compound-returns-in-Refused

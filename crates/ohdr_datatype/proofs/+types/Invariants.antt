@@ -1,13 +1,8 @@
 -- A type inside a type has one level less, so the calls end; members are read in a loop, turn by turn.
-use Rattle.ohdr_datatype.specs.Facts.{class_is, class_not, low_two_bytes, type_none, type_more}
-use Rattle.ohdr_datatype.specs.DataTypes.{member as memberFormat, data_type, type_layer, plain, properties, list_properties}
-use Rattle.format.specs.Steps.{read_done, read_refuse, read_bind, times_none, times_more}
+use Rattle.ohdr_datatype.specs.DataTypes.{member as memberFormat, data_type, plain}
 use Rattle.format.specs.Format.{read, times}
-use borrow.Author.Rules.{rules}
-use native.Mathlib.Omega.{arith}
-use mathlib.Core.Logic.{⊎_elim, inl, inr}
-use mathlib.Core.Path.{◌≡◌, refl}
-use Prim.Native.Nat.{ℕ, ◌+◌, ◌*◌, ◌<◌}
+use mathlib.Core.Path.{◌≡◌}
+use Prim.Native.Nat.{◌+◌, ◌*◌}
 use Rattle.ohdr_datatype.proofs.+types.Given as goal
 
 abbrev pub invariant-compound-loop-left : goal.invariant-compound-loop-left

@@ -1,8 +1,7 @@
 -- Each field is one step of the format, and each test is the format's own.
 use Rattle.format.specs.Steps.{read_done, read_refuse, read_number}
 use Rattle.ohdr_datatype.specs.DataTypes.{data_type_header}
-use borrow.Author.Tests.{not-true, not-false, lt-ltb, le-ltb}
-use borrow.Author.Rules.{rules}
+use borrow.Author.Tests.{lt-ltb, le-ltb}
 use Rattle.ohdr_datatype.proofs.data_type_header.Goals as goal
 
 pub returns-in_default : goal.returns-in_default

@@ -1,7 +1,6 @@
 -- Each of the two fields is one step of the format, so the answer is its reading.
 use Rattle.format.specs.Steps.{read_done, read_number}
 use Rattle.ohdr_datatype.specs.DataTypes.{fixed_properties}
-use borrow.Author.Rules.{rules}
 use Rattle.ohdr_datatype.proofs.fixed_properties.Goals as goal
 
 pub returns-in_default : goal.returns-in_default

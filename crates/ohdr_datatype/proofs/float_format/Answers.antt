@@ -1,8 +1,6 @@
 -- The properties are one step of the format, and the test for IEEE is the format's own.
 use Rattle.format.specs.Steps.{read_done, read_refuse, read_bind}
 use Rattle.ohdr_datatype.specs.DataTypes.{float_format}
-use borrow.Author.Tests.{not-true, not-false}
-use borrow.Author.Rules.{rules}
 use Rattle.ohdr_datatype.proofs.float_format.Goals as goal
 
 pub returns-in_default : goal.returns-in_default

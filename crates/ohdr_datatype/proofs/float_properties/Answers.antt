@@ -1,7 +1,6 @@
 -- Each of the seven fields is one step of the format, so the answer is its reading.
 use Rattle.format.specs.Steps.{read_done, read_number}
 use Rattle.ohdr_datatype.specs.DataTypes.{float_properties}
-use borrow.Author.Rules.{rules}
 use Rattle.ohdr_datatype.proofs.float_properties.Goals as goal
 
 pub returns-in_default : goal.returns-in_default

@@ -1,6 +1,5 @@
 -- Single or double: each call is one side of the definition.
 use Rattle.ohdr_datatype.specs.DataTypes.{ieee}
-use borrow.Author.Rules.{rules}
 use Rattle.ohdr_datatype.proofs.is_ieee.Goals as goal
 
 pub returns-then-float_is : goal.returns-then-float_is

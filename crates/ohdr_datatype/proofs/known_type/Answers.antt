@@ -2,7 +2,6 @@
 use mathlib.Core.Path.{refl}
 use Rattle.ohdr_datatype.specs.Facts.{class_is}
 use Rattle.ohdr_datatype.specs.DataTypes.{known_type}
-use borrow.Author.Rules.{rules}
 use Rattle.ohdr_datatype.proofs.known_type.Goals as goal
 
 pub returns-then-known_version : goal.returns-then-known_version
