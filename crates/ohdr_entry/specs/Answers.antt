@@ -6,7 +6,6 @@ use Rattle.records.specs.Numbers.{value_case, value_bits}
 use Rattle.grammar.specs.Message.{Kept, Held, name_of, value_of, part_of, row_of}
 use Rattle.grammar.specs.Message as messages
 use Rattle.row.specs.declared.Row.{Row}
-use Rattle.ohdr_entry.specs.declared.Continuation.{Continuation}
 use Rattle.ohdr_entry.specs.declared.Prefix.{Prefix}
 use Rattle.ohdr_entry.specs.declared.PrefixRead.{PrefixRead}
 use Rattle.ohdr_entry.specs.declared.PrefixRead.TheVariants as prefixes

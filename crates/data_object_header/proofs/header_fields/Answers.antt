@@ -3,7 +3,6 @@ use Rattle.format.specs.Steps.{read_number, read_skip, read_bind, read_done, rea
 use borrow.Author.Tests.{eq-eqb, ne_eqb, le-leb, lt-leb}
 use Rattle.format.specs.Bits.{bit_set, bit_clear}
 use Rattle.data_object_header.specs.Headers.{ohdr, header_fields}
-use borrow.Author.Rules.{rules}
 use Rattle.data_object_header.proofs.header_fields.Goals as goal
 
 pub returns-in-Refused : goal.returns-in-Refused

@@ -4,7 +4,6 @@ use Rattle.helpers.specs.Facts.{met}
 use Rattle.parser.specs.StateLaws.{made, made_widths}
 use Rattle.ohdr_closing.specs.Answers.{limits_of, walk_out}
 use Rattle.data_object_messages.specs.Laws.{not_made, not_small, goes_in}
-use borrow.Author.Rules.{rules}
 use Rattle.data_object_messages.proofs.data_object_messages.Goals as goal
 
 pub returns-in-Refused-clause-table_after : goal.returns-in-Refused-clause-table_after

@@ -3,7 +3,6 @@ use mathlib.Core.Path.{◌∙◌}
 use native.Mathlib.Omega.{arith}
 use Rattle.ohdr_closing.specs.Answers.{limits_of}
 use Rattle.data_object_messages.specs.Laws.{fields_refused, fields_read, fields_bound}
-use borrow.Author.Rules.{rules}
 use Rattle.data_object_messages.proofs.header_messages.Goals as goal
 
 pub overflow_add-end : goal.overflow_add-end

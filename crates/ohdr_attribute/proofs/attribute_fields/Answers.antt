@@ -1,12 +1,10 @@
 -- Each field is one step of the format, and each test is the format's own.
 use Rattle.ohdr_attribute.specs.Attributes.{attribute_fields}
 use Rattle.format.specs.Steps.{read_number, read_bind, read_refuse, read_done}
-use borrow.Author.Tests.{not-true, not-false, eq-eqb, ne_eqb, le-leb, lt-leb}
+use borrow.Author.Tests.{eq-eqb, ne_eqb, le-leb, lt-leb}
 use lib.Dec.{eqb}
 use mathlib.Core.Path.{◌≡◌}
 use mathlib.Core.Bool.{true, ◌||◌}
-use mathlib.Core.Logic.{⊎_elim}
-use borrow.Author.Rules.{rules}
 use Rattle.ohdr_attribute.proofs.attribute_fields.Goals as goal
 use Rattle.ohdr_attribute.proofs.attribute_fields.Goals.{else-version-ne1-via-then-version-ne1+else-version-ne3 as second, else-version-ne1-via-else-version-ne1 as first}
 

@@ -4,11 +4,9 @@ use Rattle.ohdr_datatype.specs.Facts.{class_is, class_not}
 use Rattle.records.specs.Elements.{elements_of}
 use borrow.Author.Tests.{lt-ltb, le-ltb}
 use lib.Dec.{eqb}
-use mathlib.Core.Logic.{⊎_elim}
 use mathlib.Core.Path.{◌≡◌, sym, ◌∙◌}
 use mathlib.Core.Bool.{true, false}
 use Prim.Native.Nat.{◌*◌}
-use borrow.Author.Rules.{rules}
 use Rattle.ohdr_attribute.proofs.attribute_value.Goals as goal
 use Rattle.ohdr_attribute.proofs.attribute_value.Goals.{then-class-eq3+else-size-gt0 as sized, else-class-eq3 as other_class}
 

@@ -1,6 +1,5 @@
 -- Only version 1 has padding, and the number is then the definition's.
 use borrow.Author.Tests.{eq-eqb, ne_eqb}
-use borrow.Author.Rules.{rules}
 use Rattle.ohdr_attribute.proofs.eight_padding.Goals as goal
 
 pub returns-then-version-ne1 : goal.returns-then-version-ne1

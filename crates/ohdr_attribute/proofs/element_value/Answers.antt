@@ -4,7 +4,6 @@ use Rattle.number_form.specs.Sizes.{form_sized}
 use Rattle.format.specs.Steps.{read_bind, read_done}
 use native.Mathlib.Omega.{arith}
 use mathlib.Core.Path.{sym, ◌∙◌}
-use borrow.Author.Rules.{rules}
 use Rattle.ohdr_attribute.proofs.element_value.Goals as goal
 
 pub number_value-requires : goal.number_value-requires

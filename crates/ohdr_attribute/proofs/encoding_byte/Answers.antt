@@ -2,7 +2,6 @@
 use Rattle.ohdr_attribute.specs.Attributes.{encoding}
 use Rattle.format.specs.Steps.{read_number, read_done}
 use borrow.Author.Tests.{eq-eqb, ne_eqb}
-use borrow.Author.Rules.{rules}
 use Rattle.ohdr_attribute.proofs.encoding_byte.Goals as goal
 
 pub returns-then-version-ne3 : goal.returns-then-version-ne3

@@ -3,7 +3,6 @@ use Rattle.element_count.specs.Facts.{fits_count, many_count}
 use borrow.Author.Tests.{ne_eqb}
 use native.Mathlib.Omega.{arith}
 use mathlib.Core.Path.{sym, ◌∙◌}
-use borrow.Author.Rules.{rules}
 use Rattle.ohdr_attribute.proofs.is_one.Goals as goal
 
 pub returns-in_default : goal.returns-in_default

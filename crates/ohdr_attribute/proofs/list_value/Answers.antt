@@ -2,7 +2,6 @@
 use Rattle.ohdr_attribute.specs.Attributes.{list_value}
 use Rattle.format.specs.Steps.{read_skip, read_refuse, read_done}
 use borrow.Author.Tests.{le-leb, lt-leb}
-use borrow.Author.Rules.{rules}
 use Rattle.ohdr_attribute.proofs.list_value.Goals as goal
 
 pub returns-then-size-gt12 : goal.returns-then-size-gt12

@@ -1,7 +1,6 @@
 -- The fields, the name and its padding are steps of the format, and the call reads the rest.
 use Rattle.ohdr_attribute.specs.Attributes.{attribute}
 use Rattle.format.specs.Steps.{read_here, read_bind, read_text, read_skip}
-use borrow.Author.Rules.{rules}
 use Rattle.ohdr_attribute.proofs.message_attribute.Goals as goal
 
 pub returns-in_default : goal.returns-in_default

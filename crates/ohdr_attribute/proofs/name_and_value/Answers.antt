@@ -3,7 +3,6 @@ use Rattle.format.specs.Steps.{read_attempt, read_here, read_bind, read_skip, re
 use Rattle.ohdr_datatype.specs.DataTypes.{data_type}
 use Rattle.format.specs.Standing.{read_forward}
 use Rattle.ohdr_attribute.specs.Attributes.{name_and_value, type_space_value}
-use borrow.Author.Rules.{rules}
 use Rattle.ohdr_attribute.proofs.name_and_value.Goals as goal
 
 pub returns-in_default : goal.returns-in_default

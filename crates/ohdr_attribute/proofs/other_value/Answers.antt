@@ -5,7 +5,6 @@ use Rattle.format.specs.Steps.{read_skip, read_done}
 use Rattle.element_count.specs.Facts.{fits_count, many_count}
 use Rattle.ohdr_attribute.specs.Facts.{few_bytes, no_bytes, many_bytes}
 use Rattle.ohdr_attribute.specs.Attributes.{other_value}
-use borrow.Author.Rules.{rules}
 use Rattle.ohdr_attribute.proofs.other_value.Goals as goal
 
 pub returns-in_default : goal.returns-in_default

@@ -3,7 +3,6 @@ use Rattle.ohdr_dataspace.specs.DataSpaces.{data_space}
 use Rattle.format.specs.Standing.{read_forward}
 use Rattle.ohdr_attribute.specs.Attributes.{space_value}
 use Rattle.format.specs.Steps.{read_here, read_bind, read_skip}
-use borrow.Author.Rules.{rules}
 use Rattle.ohdr_attribute.proofs.space_and_value.Goals as goal
 
 pub returns-in-Refused : goal.returns-in-Refused

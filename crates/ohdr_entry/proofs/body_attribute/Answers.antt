@@ -1,7 +1,6 @@
 -- What the attribute's reading gives is shown as its name, its part and its number, or it is refused alike.
 use Rattle.ohdr_entry.specs.Entries.{attribute_body}
 use Rattle.format.specs.Steps.{read_bind, read_done}
-use borrow.Author.Rules.{rules}
 use Rattle.ohdr_entry.proofs.body_attribute.Goals as goal
 
 pub returns-in-Read : goal.returns-in-Read

@@ -1,7 +1,6 @@
 -- What the layout's reading gives is shown as its part, or it is refused alike.
 use Rattle.ohdr_entry.specs.Entries.{layout_body}
 use Rattle.format.specs.Steps.{read_bind, read_done}
-use borrow.Author.Rules.{rules}
 use Rattle.ohdr_entry.proofs.body_data_layout.Goals as goal
 
 pub returns-in-Read : goal.returns-in-Read

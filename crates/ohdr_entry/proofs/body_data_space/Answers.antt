@@ -1,6 +1,5 @@
 -- Only the position of the dataspace's reading is kept, or its refusal.
 use Rattle.ohdr_entry.specs.Facts.{placed_position}
-use borrow.Author.Rules.{rules}
 use Rattle.ohdr_entry.proofs.body_data_space.Goals as goal
 
 pub returns : goal.returns

@@ -1,5 +1,4 @@
 -- Only the position of the datatype's reading is kept, or its refusal.
-use borrow.Author.Rules.{rules}
 use Rattle.ohdr_entry.proofs.body_data_type.Goals as goal
 
 pub returns-in-Read : goal.returns-in-Read

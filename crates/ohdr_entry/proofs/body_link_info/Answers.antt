@@ -1,5 +1,4 @@
 -- Only the position of the link info's reading is kept, or its refusal.
-use borrow.Author.Rules.{rules}
 use Rattle.ohdr_entry.proofs.body_link_info.Goals as goal
 
 pub returns-in-Read : goal.returns-in-Read

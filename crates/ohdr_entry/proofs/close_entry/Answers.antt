@@ -1,6 +1,5 @@
 -- Where the fields used the whole size nothing is left to pass over; else the rest is.
 use Rattle.ohdr_entry.specs.Facts.{rest_none, rest_some}
-use borrow.Author.Rules.{rules}
 use Rattle.ohdr_entry.proofs.close_entry.Goals as goal
 
 pub returns-then-size-fields : goal.returns-then-size-fields

@@ -2,7 +2,6 @@
 use Rattle.ohdr_entry.specs.Entries.{creation_order}
 use Rattle.format.specs.Steps.{read_number, read_done}
 use Rattle.format.specs.Bits.{bit_set, bit_clear}
-use borrow.Author.Rules.{rules}
 use Rattle.ohdr_entry.proofs.creation_order.Goals as goal
 
 pub returns-then-header_flags-eq0 : goal.returns-then-header_flags-eq0

@@ -2,7 +2,6 @@
 use Rattle.ohdr_entry.specs.Entries.{entry}
 use Rattle.format.specs.Steps.{read_bind, read_here}
 use borrow.Author.Tests.{eq-eqb, ne_eqb}
-use borrow.Author.Rules.{rules}
 use Rattle.ohdr_entry.proofs.entry_alone.Goals as goal
 
 pub returns-in-Refused : goal.returns-in-Refused

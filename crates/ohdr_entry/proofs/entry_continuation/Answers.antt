@@ -5,7 +5,6 @@ use Rattle.ohdr_entry.specs.Continuations.{continuation_out}
 use Rattle.format.specs.Steps.{read_bind, read_done}
 use Rattle.format.specs.Standing.{read_forward}
 use mathlib.Core.Path.{sym, ◌∙◌, ap}
-use borrow.Author.Rules.{rules}
 use Rattle.ohdr_entry.proofs.entry_continuation.Goals as goal
 
 pub close_entry-requires : goal.close_entry-requires

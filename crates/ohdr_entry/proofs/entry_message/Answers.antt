@@ -2,7 +2,6 @@
 use mathlib.Core.Path.{sym, ◌∙◌, ap}
 use Rattle.ohdr_entry.specs.Answers.{body_out}
 use Rattle.ohdr_entry.specs.Facts.{body_forward, seen_closed, seen_message}
-use borrow.Author.Rules.{rules}
 use Rattle.ohdr_entry.proofs.entry_message.Goals as goal
 
 pub close_entry-requires : goal.close_entry-requires

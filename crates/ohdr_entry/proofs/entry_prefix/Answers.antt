@@ -2,7 +2,6 @@
 use Rattle.format.specs.Steps.{read_number, read_bind, read_done, read_refuse}
 use borrow.Author.Tests.{eq-eqb, ne_eqb}
 use Rattle.ohdr_entry.specs.Entries.{prefix}
-use borrow.Author.Rules.{rules}
 use Rattle.ohdr_entry.proofs.entry_prefix.Goals as goal
 
 pub returns-in_default : goal.returns-in_default

@@ -1,10 +1,9 @@
 -- Offset and length are each one step of the format, and each test is the format's own.
-use borrow.Author.Tests.{lt-leb, le-leb, not-true, not-false}
+use borrow.Author.Tests.{lt-leb, le-leb}
 use Rattle.format.specs.Steps.{read_number, read_bind, read_done, read_refuse}
 use Rattle.helpers.specs.Addresses.{defined_address}
 use Rattle.ohdr_entry.specs.Continuations.{continuation}
 use Rattle.ohdr_entry.specs.Facts.{before_end, ends_past, ends_inside}
-use borrow.Author.Rules.{rules}
 use Rattle.ohdr_entry.proofs.message_continuation.Goals as goal
 
 pub returns-in_default : goal.returns-in_default

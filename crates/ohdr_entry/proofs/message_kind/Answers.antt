@@ -2,7 +2,6 @@
 use borrow.Author.Tests.{eq-eqb, ne_eqb}
 use Rattle.ohdr_entry.specs.Entries.{body}
 use Rattle.ohdr_entry.specs.Facts.{plain_figures}
-use borrow.Author.Rules.{rules}
 use Rattle.ohdr_entry.proofs.message_kind.Goals as goal
 
 pub returns-then-kind-eq8 : goal.returns-then-kind-eq8

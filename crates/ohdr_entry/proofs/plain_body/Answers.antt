@@ -4,7 +4,6 @@ use borrow.Author.Tests.{ne_eqb}
 use Rattle.ohdr_entry.specs.Facts.{position_kept, position_self}
 use Rattle.ohdr_entry.specs.Entries.{plain_body}
 use Rattle.format.specs.Steps.{read_done}
-use borrow.Author.Rules.{rules}
 use Rattle.ohdr_entry.proofs.plain_body.Goals as goal
 
 pub returns-in-1 : goal.returns-in-1

@@ -1,14 +1,9 @@
 -- An entry opens a block one level below, so the calls end; a block's run is walked, turn by turn.
-use borrow.Author.Rules.{rules}
-use Prim.Native.Nat.{◌+◌, ◌-◌, ◌*◌}
-use Rattle.ohdr_walk.specs.Loop.{Along, ends, stops, goes, falls as shrinks}
+use Rattle.ohdr_walk.specs.Loop.{ends, stops, goes, falls as shrinks}
 use Rattle.ohdr_walk.specs.Entering.{prefix_small, many, unread, row_taken_lem, ranged, deep, unsigned, starts_inside, unrun, block_closed_lem}
-use Rattle.ohdr_walk.specs.Code.{run_of}
-use Rattle.ohdr_closing.specs.Answers.{walked_of}
 use Rattle.ohdr_closing.specs.Taking.{lends_on}
 use native.Mathlib.Omega.{arith}
 use mathlib.Core.Path.{refl, sym}
-use Prim.Native.Nat.{ℕ, ◌<◌}
 use Rattle.ohdr_walk.proofs.+blocks.Goals as goal
 
 pub message_block-loop-progress-init : goal.message_block-loop-progress-init

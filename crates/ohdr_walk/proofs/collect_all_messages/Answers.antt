@@ -1,6 +1,5 @@
 -- The header's run of entries is what the call walks, and then its end refuses or closes it.
 use Rattle.ohdr_walk.specs.Heading.{unwalked, ajar, shut}
-use borrow.Author.Rules.{rules}
 use Rattle.ohdr_walk.proofs.collect_all_messages.Goals as goal
 
 pub returns-in-Refused : goal.returns-in-Refused

@@ -1,0 +1,6 @@
+-- The words are those of the answer, which is the superblock's reading.
+use borrow.Author.Rules.{rules}
+use Rattle.firmware.proofs.dowringaf_super_block.Goals as goal
+
+pub returns : goal.returns
+returns c = rw (← c.super_block-answer.ensures.result_value) c.super_block_words.ensures
