@@ -1,6 +1,6 @@
 -- When the data of an attribute message of the standard are handed out as a value, and what is then handed out. Each condition is named by the
 -- entry of docs/DIFFERENCES.md, part one, that it excludes. Assumes nothing: these are definitions.
-use Rattle.std.specs.Prelude.{ℕ, ◌-◌, ◌≤◌, ◌<◌, ◌≡◌, List}
+use Rattle.std.specs.Prelude.{ℕ, ◌≤◌, ◌<◌, ◌≡◌, List}
 use Rattle.format.specs.Format.{Stands}
 use Rattle.records.specs.declared.Part.{Part}
 use Rattle.records.specs.declared.Number.{Number}

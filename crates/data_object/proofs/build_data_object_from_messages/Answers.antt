@@ -2,7 +2,6 @@
 use mathlib.Core.Path.{refl}
 use native.Mathlib.Omega.{arith}
 use Rattle.data_object_winners.specs.LastRows.{last_within, last_at}
-use borrow.Author.Rules.{rules}
 use Rattle.data_object.proofs.build_data_object_from_messages.Goals as goal
 
 pub winning_data_type-dt-requires : goal.winning_data_type-dt-requires

@@ -7,7 +7,6 @@ use Rattle.helpers.specs.Facts.{met}
 use Rattle.row.specs.Clearing.{cleared_all}
 use Rattle.data_object_messages.specs.Messages.{messages_out, StateRead}
 use Rattle.data_object.specs.DecodedLaws.{rows_fit, rejected_decoded, built_decoded}
-use borrow.Author.Rules.{rules}
 use Rattle.data_object.proofs.data_object.Goals as goal
 
 pub data_object_messages-requires : goal.data_object_messages-requires

@@ -5,7 +5,6 @@ use borrow.Author.Tests.{le-leb, lt-leb}
 use native.Mathlib.Omega.{arith}
 use mathlib.Core.Path.{ap, ◌∙◌}
 use Prim.Native.Nat.{◌+◌, ◌-◌}
-use borrow.Author.Rules.{rules}
 use Rattle.data_object.proofs.layout_data.Goals as goal
 
 pub returns-then-file-position : goal.returns-then-file-position

@@ -1,7 +1,6 @@
 -- Each record is its type's default.
 use Rattle.data_object.specs.DecodedLaws.{wins≡}
 use mathlib.Core.Path.{refl}
-use borrow.Author.Rules.{rules}
 use Rattle.data_object.proofs.rejected.Goals as goal
 
 pub returns-clause-rejected_as : goal.returns-clause-rejected_as

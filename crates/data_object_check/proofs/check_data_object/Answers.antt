@@ -3,7 +3,6 @@ use mathlib.Core.Path.{sym}
 use Rattle.helpers.specs.Facts.{met}
 use Rattle.data_object_messages.specs.Messages.{messages_out}
 use Rattle.data_object_check.specs.CheckedLaws.{refused_checked, passed_checked}
-use borrow.Author.Rules.{rules}
 use Rattle.data_object_check.proofs.check_data_object.Goals as goal
 
 pub returns-in-Refused : goal.returns-in-Refused

@@ -1,6 +1,5 @@
 -- By the superblock: its refusal is the answer, or the check of the header that it leads to.
 use mathlib.Core.Path.{refl}
-use borrow.Author.Rules.{rules}
 use Rattle.data_object_root.proofs.check_root.Goals as goal
 
 pub returns-in-Refused : goal.returns-in-Refused

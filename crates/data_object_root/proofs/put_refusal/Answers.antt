@@ -1,6 +1,5 @@
 -- All words are cleared, and the number and the one element are put in their places.
 use Rattle.row.specs.Clearing.{cleared_all}
-use borrow.Author.Rules.{rules}
 use Rattle.data_object_root.proofs.put_refusal.Goals as goal
 
 pub returns : goal.returns

@@ -4,7 +4,6 @@ use native.Mathlib.Omega.{arith}
 use Rattle.records.specs.Refusals.{refusal_number}
 use Rattle.row.specs.Clearing.{cleared_all}
 use Rattle.data_object_root.specs.Laws.{refused_true}
-use borrow.Author.Rules.{rules}
 use Rattle.data_object_root.proofs.root_words.Goals as goal
 
 pub returns-in-Refused-clause-handed_root : goal.returns-in-Refused-clause-handed_root

@@ -3,7 +3,6 @@ use Rattle.data_object_winners.specs.declared.LastBody.TheVariants as bodies
 use Rattle.data_object_winners.specs.Facts.{body_some}
 use Rattle.row.specs.declared.Row.{Row}
 use mathlib.Core.Path.{sym, ap, ◌∙◌}
-use borrow.Author.Rules.{rules}
 use Rattle.data_object_winners.proofs.last_body.Goals as goal
 
 pub returns-then-row-eq0 : goal.returns-then-row-eq0

@@ -3,10 +3,10 @@ use Rattle.data_object_winners.specs.Facts.{last_none, last_more}
 use Rattle.data_object_winners.specs.Winners.{last_rows}
 use borrow.Author.Tests.{lt-ltb, le-ltb}
 use native.Mathlib.Omega.{arith}
-use lib.ListN.{length, set, length-set}
+use lib.ListN.{set, length-set}
 use mathlib.Core.List.{List}
 use mathlib.Core.Path.{◌≡◌, refl, sym, ap, ap₂, ◌∙◌}
-use Prim.Native.Nat.{ℕ, ◌+◌, ◌-◌, ◌≤◌}
+use Prim.Native.Nat.{ℕ, ◌+◌}
 use Rattle.data_object_winners.proofs.last_rows.Goals as goal
 
 pub loop-row-init : goal.loop-row-init

@@ -1,12 +1,8 @@
 -- After each turn the array is right for the rows passed so far, and at the end those are all of them.
-use Rattle.data_object_winners.specs.Facts.{last_none, last_more}
 use Rattle.data_object_winners.specs.Winners.{last_rows}
-use borrow.Author.Tests.{lt-ltb, le-ltb}
-use native.Mathlib.Omega.{arith}
-use lib.ListN.{length, set, length-set}
-use mathlib.Core.List.{List}
-use mathlib.Core.Path.{◌≡◌, refl, sym, ap, ap₂, ◌∙◌}
-use Prim.Native.Nat.{ℕ, ◌+◌, ◌-◌, ◌≤◌}
+use lib.ListN.{length}
+use mathlib.Core.Path.{◌≡◌}
+use Prim.Native.Nat.{◌-◌, ◌≤◌}
 use Rattle.data_object_winners.proofs.last_rows.Given as goal
 
 abbrev pub invariant-loop-row : goal.invariant-loop-row

@@ -1,6 +1,5 @@
 -- No row gives the default; a refused dataspace comes with the default record already.
 use Rattle.data_object_winners.specs.Facts.{space_or_default}
-use borrow.Author.Rules.{rules}
 use Rattle.data_object_winners.proofs.winning_data_space.Goals as goal
 
 pub returns-in_default-clause-value : goal.returns-in_default-clause-value

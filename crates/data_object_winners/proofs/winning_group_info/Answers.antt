@@ -1,5 +1,4 @@
 -- No row and a refused reading both give the default; else the group info is what was read.
-use borrow.Author.Rules.{rules}
 use Rattle.data_object_winners.proofs.winning_group_info.Goals as goal
 
 pub returns-in_default : goal.returns-in_default

@@ -1,7 +1,6 @@
 -- In either case the three words are set in their places, a refusal by its number.
 use lib.ListN.{length-set}
 use native.Mathlib.Omega.{arith}
-use borrow.Author.Rules.{rules}
 use Rattle.data_object_words.proofs.put_answer.Goals as goal
 
 pub bounds-words-1 : goal.bounds-words-1

@@ -1,7 +1,6 @@
 -- Each call sets the words of its record, and together they set all 65, so none of the old ones stays.
 use native.Mathlib.Omega.{arith}
 use Rattle.data_object_words.specs.Laws.{put_whole}
-use borrow.Author.Rules.{rules}
 use Rattle.data_object_words.proofs.put_words.Goals as goal
 
 pub returns : goal.returns
