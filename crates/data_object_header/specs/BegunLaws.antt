@@ -16,8 +16,8 @@ use Rattle.grammar.specs.Grammar.{Item}
 use Rattle.grammar.specs.Walk.{Went, stopped, begun, Limits, start, walk, Fit}
 use Rattle.grammar.specs.WalkLaws.{choose_yes, choose_no, chose, was_found, found_then, refused_then}
 use Rattle.grammar.specs.Begun.{Cause, elsewhere, more, Numbered, Stopped}
-use Rattle.grammar.specs.BegunSound.{Halted, there, later, halted, was_refused, stops_at_once, stops_as, walk_stopped}
-use Rattle.grammar.specs.BegunComplete.{nowhere_read, as_many, same_stopped, stopped_walk}
+use Rattle.grammar.proofs.BegunSound.{Halted, there, later, halted, was_refused, stops_at_once, stops_as, walk_stopped}
+use Rattle.grammar.proofs.BegunComplete.{nowhere_read, as_many, same_stopped, stopped_walk}
 use Rattle.ohdr_walk.specs.Sources.{source}
 use Rattle.data_object_header.specs.Headers.{header_fields, header, decode}
 use Rattle.data_object_header.specs.Begun.{HeaderStops, no_fields, in_reading, DecodeStops, bad_width, too_large, in_header}

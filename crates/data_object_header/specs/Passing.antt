@@ -10,7 +10,7 @@ use Rattle.grammar.specs.Grammar.{Item}
 use Rattle.grammar.specs.Table.{messages}
 use Rattle.grammar.specs.Walk.{reached, Limits, entry_limit, lent, without_table, start, Fit}
 use Rattle.grammar.specs.WalkLaws.{passed, fit_lent, fit_without}
-use Rattle.grammar.specs.Beside.{Beside, both_stop, chosen, after_read, walk_beside}
+use Rattle.grammar.proofs.Beside.{Beside, both_stop, chosen, after_read, walk_beside}
 use Rattle.ohdr_walk.specs.Sources.{source}
 use Rattle.data_object_header.specs.Headers.{header_fields, header, decode, Checkable}
 use Rattle.data_object_header.specs.HeaderLaws.{header_accepts, decode_complete}

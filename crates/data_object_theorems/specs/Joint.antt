@@ -11,7 +11,7 @@ use Rattle.row.specs.Rows.{row_words}
 use Rattle.grammar.specs.Grammar.{Item}
 use Rattle.grammar.specs.Table.{messages}
 use Rattle.grammar.specs.Walk.{Went, reached, stopped, entry_limit, lent}
-use Rattle.grammar.specs.Beside.{Beside}
+use Rattle.grammar.proofs.Beside.{Beside}
 use Rattle.data_object_header.specs.Headers.{decode}
 use Rattle.data_object_header.specs.Passing.{decode_beside}
 use Rattle.data_object_check.specs.declared.HeaderFigures.{HeaderFigures}

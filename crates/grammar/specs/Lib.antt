@@ -4,7 +4,6 @@ pub mod Table
 pub mod Walk
 pub mod TableLaws
 pub mod WalkLaws
-pub mod Beside
 pub mod Steps
 pub mod Sound
 pub mod Complete
@@ -14,5 +13,3 @@ pub mod Advance
 pub mod Filled
 pub mod Each
 pub mod Begun
-pub mod BegunSound
-pub mod BegunComplete

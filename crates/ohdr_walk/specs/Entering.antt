@@ -15,7 +15,8 @@ use Rattle.grammar.specs.Message.{Held, continuation}
 use Rattle.grammar.specs.Grammar.{ochk}
 use Rattle.grammar.specs.Walk.{Went, stopped, and_then, begun}
 use Rattle.grammar.specs.WalkLaws.{choose_yes, choose_no, then_reached, then_stopped, found_then, refused_then}
-use Rattle.grammar.specs.Filled.{Walked, hold_on, entry_on_lem}
+use Rattle.grammar.specs.Filled.{Walked, hold_on}
+use Rattle.grammar.proofs.FilledLaws.{entry_on_lem}
 use Rattle.ohdr_entry.specs.declared.Continuation.{Continuation}
 use Rattle.ohdr_entry.specs.Answers.{entry_out, seen}
 use Rattle.ohdr_entry.specs.Entered.{Continued, continued, seen_row, seen_continuation, seen_refused}

@@ -10,7 +10,7 @@ use Rattle.helpers.specs.declared.Place.{Place}
 use Rattle.helpers.specs.declared.Place.TheVariants as places
 use Rattle.grammar.specs.Grammar.{header_end}
 use Rattle.grammar.specs.Walk.{reached, stopped}
-use Rattle.grammar.specs.Filled.{walk_on_stops, walk_on_unclosed, walk_on_closed}
+use Rattle.grammar.proofs.FilledLaws.{walk_on_stops, walk_on_unclosed, walk_on_closed}
 use Rattle.ohdr_closing.specs.Answers.{limits_of, walked_of, walk_out}
 use Rattle.ohdr_closing.specs.declared.Limits.{Limits}
 use Rattle.ohdr_closing.specs.declared.Progress.{Progress}

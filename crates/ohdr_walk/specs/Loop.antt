@@ -5,7 +5,8 @@ use Rattle.std.proofs.Common.{◌∙◌, arith}
 use Rattle.records.specs.Refusals.{refusal_number}
 use Rattle.records.specs.declared.Refusal.{Refusal}
 use Rattle.grammar.specs.Walk.{Went, reached, stopped}
-use Rattle.grammar.specs.Filled.{Walked, Further, further as Goes-Further, run_ends, run_stops, run_goes}
+use Rattle.grammar.specs.Filled.{Walked}
+use Rattle.grammar.proofs.FilledLaws.{Further, further as goes_further, run_ends, run_stops, run_goes}
 use Rattle.ohdr_entry.specs.Entries.{prefix_size}
 use Rattle.helpers.specs.Facts.{met}
 use Rattle.ohdr_closing.specs.Answers.{limits_of, walked_of, walk_out}
@@ -34,7 +35,7 @@ module _ {file : List ℕ} {h : Header} {l : Limits} {levels end : ℕ} {o : Wen
 
     module _ (d : levels ≤ 25) {w : Walk} {p' : Progress} (f : walk_out w t' ≡ entry_of file h l levels p.at (walked_of p t)) (e : w ≡ Done p') where
       further : Further (source_of file h) (limits_of l) (walked_of p t) (walked_of p' t') p.at p'.at
-      further = Goes-Further (source_of file h) (limits_of l) levels end p.at (walked_of p t) d p'.at (walked_of p' t') (met (λ w. walk_out w t') f e)
+      further = goes_further (source_of file h) (limits_of l) levels end p.at (walked_of p t) d p'.at (walked_of p' t') (met (λ w. walk_out w t') f e)
 
       pub goes : length t' ≡ length t → Along file h l levels end o t₀ p' t'
       goes c = record {

@@ -1,13 +1,4 @@
 pub mod Differences
 pub mod SameNumbers
-pub mod NumberForms
 pub mod Same
 pub mod ReadValues
-pub mod Contents
-pub mod Ties
-pub mod Rules
-pub mod ReadElements
-pub mod Values
-pub mod Accepts
-pub mod ValueSamples
-pub mod Samples

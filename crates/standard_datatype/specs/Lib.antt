@@ -1,9 +1,4 @@
 pub mod Differences
 pub mod Same
-pub mod Members
-pub mod Ties
 pub mod ReadTypes
-pub mod Reads
 pub mod SampleTypes
-pub mod Rules
-pub mod Samples

@@ -1,16 +1,3 @@
 pub mod Differences
 pub mod Same
-pub mod Addresses
-pub mod Options
-pub mod Infos
-pub mod Layouts
-pub mod Fills
-pub mod Filters
-pub mod Dataspaces
-pub mod Rules
-pub mod Samples
 pub mod ReadMessages
-pub mod Reads
-pub mod SpaceReads
-pub mod LayoutReads
-pub mod FilterReads

@@ -2,8 +2,3 @@ pub mod Same
 pub mod ReadSuperblocks
 pub mod Is
 pub mod AcceptedAs
-pub mod Ties
-pub mod Roots
-pub mod Accepts
-pub mod Samples
-pub mod RootNumbers

@@ -1,5 +1,5 @@
 -- The five figures are written one after another, each in at most 21 bytes.
-use Rattle.text.specs.Laws.{then}
+use Rattle.text.proofs.Laws.{then}
 use Rattle.listing_text.specs.Listing.{head_of}
 use borrow.Author.Rules.{rules}
 use Rattle.listing_text.proofs.put_head.Goals as goal

@@ -1,6 +1,6 @@
 -- The head, the name and the part are written one after another.
 use Rattle.listing_text.specs.Listing.{line_of}
-use Rattle.text.specs.Laws.{then}
+use Rattle.text.proofs.Laws.{then}
 use borrow.Author.Rules.{rules}
 use Rattle.listing_text.proofs.put_line.Goals as goal
 

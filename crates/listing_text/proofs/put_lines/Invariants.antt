@@ -5,7 +5,7 @@ use native.Mathlib.Omega.{arith}
 use borrow.Author.Rules.{rules}
 use lib.ListN.{length}
 use Rattle.text.specs.Text.{Wrote}
-use Rattle.text.specs.Laws.{then, wrote_none}
+use Rattle.text.proofs.Laws.{then, wrote_none}
 use Rattle.row.specs.Rows.{first_rows}
 use Rattle.listing_text.specs.Listing.{lines_of}
 use Rattle.listing_text.specs.Laws.{lines_more}

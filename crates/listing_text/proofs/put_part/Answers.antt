@@ -1,6 +1,6 @@
 -- Two hyphens or two figures are written one after another.
 use Rattle.listing_text.specs.Listing.{place_of}
-use Rattle.text.specs.Laws.{then}
+use Rattle.text.proofs.Laws.{then}
 use borrow.Author.Rules.{rules}
 use Rattle.listing_text.proofs.put_part.Goals as goal
 

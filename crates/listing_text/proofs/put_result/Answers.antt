@@ -1,6 +1,6 @@
 -- The first word tells a refusal from a reading; then the lines and the end follow one another.
 use borrow.Author.Tests.{eq-eqb, ne_eqb}
-use Rattle.text.specs.Laws.{then}
+use Rattle.text.proofs.Laws.{then}
 use Rattle.listing_text.specs.Listing.{words_text}
 use borrow.Author.Rules.{rules}
 use Rattle.listing_text.proofs.put_result.Goals as goal

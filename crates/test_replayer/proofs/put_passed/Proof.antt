@@ -1,5 +1,5 @@
 -- The word and the three figures are written one after another.
-use Rattle.text.specs.Laws.{then}
+use Rattle.text.proofs.Laws.{then}
 use Rattle.test_replayer.specs.Checks.{passed_line}
 use borrow.Author.Rules.{rules}
 use Rattle.test_replayer.proofs.put_passed.Statement.{statement}

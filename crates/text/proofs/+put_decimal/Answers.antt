@@ -1,6 +1,6 @@
 -- Below 10 it is one digit; else the digits of n / 10 are written first, and n / 10 is smaller.
 use Rattle.std.proofs.Common.{arith}
-use Rattle.text.specs.Laws.{decimal_one, decimal_more, decimal_long, decimal_short, then}
+use Rattle.text.proofs.Laws.{decimal_one, decimal_more, decimal_long, decimal_short, then}
 use borrow.Author.Rules.{rules}
 use Rattle.text.proofs.+put_decimal.Goals as goal
 

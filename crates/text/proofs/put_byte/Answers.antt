@@ -1,5 +1,5 @@
 -- One byte is set in its place, and the others stay.
-use Rattle.text.specs.Laws.{wrote_byte}
+use Rattle.text.proofs.Laws.{wrote_byte}
 use Rattle.text.proofs.put_byte.Goals as goal
 
 pub returns : goal.returns

@@ -1,5 +1,5 @@
 -- The figure or the hyphen and then the end are written one after another; a figure has at most 20 digits.
-use Rattle.text.specs.Laws.{decimal_20, then}
+use Rattle.text.proofs.Laws.{decimal_20, then}
 use Rattle.text.specs.Text.{field}
 use native.Mathlib.Omega.{arith}
 use Rattle.text.proofs.put_field.Goals as goal

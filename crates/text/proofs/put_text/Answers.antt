@@ -1,6 +1,6 @@
 -- After each turn the bytes of the text so far are written.
 use mathlib.Core.Path.{◌≡◌, refl}
-use Rattle.text.specs.Laws.{wrote_more, wrote_none}
+use Rattle.text.proofs.Laws.{wrote_more, wrote_none}
 use lib.Seq.{take-length}
 use lib.ListN.{length, take}
 use borrow.Author.Rules.{rules}

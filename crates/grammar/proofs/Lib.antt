@@ -1,0 +1,4 @@
+pub mod BegunSound
+pub mod BegunComplete
+pub mod Beside
+pub mod FilledLaws

@@ -1,0 +1,9 @@
+pub mod NumberForms
+pub mod Contents
+pub mod Ties
+pub mod Rules
+pub mod ReadElements
+pub mod Values
+pub mod Accepts
+pub mod ValueSamples
+pub mod Samples

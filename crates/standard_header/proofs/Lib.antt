@@ -1,0 +1,16 @@
+pub mod SameLaws
+pub mod Prefixes
+pub mod Bodies
+pub mod Entries
+pub mod Chunks
+pub mod Whole
+pub mod Readings
+pub mod Winning
+pub mod Handed
+pub mod AsLaws
+pub mod HeaderReads
+pub mod Accepts
+pub mod Among
+pub mod AcceptSamples
+pub mod KindSamples
+pub mod RowNumbers

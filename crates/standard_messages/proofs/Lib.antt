@@ -1,0 +1,13 @@
+pub mod Addresses
+pub mod Options
+pub mod Infos
+pub mod Layouts
+pub mod Fills
+pub mod Filters
+pub mod Dataspaces
+pub mod Rules
+pub mod Samples
+pub mod MessageReads
+pub mod SpaceReads
+pub mod LayoutReads
+pub mod FilterReads
