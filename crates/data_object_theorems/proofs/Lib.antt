@@ -1,0 +1,4 @@
+pub mod Checksums
+pub mod Lookups
+pub mod Joint
+pub mod JointRoot

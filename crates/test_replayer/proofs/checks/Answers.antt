@@ -1,0 +1,17 @@
+-- What was written is the line of the check, so comparing it with what is expected decides.
+use mathlib.Core.Path.{ap, ◌∙◌}
+use Rattle.listing_text.specs.Laws.{wrote_all, wrote_counts}
+use Rattle.test_replayer.specs.Checks.{check_line, check_text}
+use Rattle.test_replayer.specs.Laws.{compared}
+use borrow.Author.Rules.{rules}
+use Rattle.test_replayer.proofs.checks.Goals as goal
+
+pub slice_bounds-line-end : goal.slice_bounds-line-end
+slice_bounds-line-end c = (wrote_counts c.put_checked-n.ensures).0
+
+pub slice_bounds-same-end : goal.slice_bounds-same-end
+slice_bounds-same-end c = (wrote_counts c.put_checked-n.ensures).1
+
+pub returns : goal.returns
+unfolding check_text
+returns c = compared (wrote_all c.put_checked-n.ensures ∙ ap check_line c.check_data_object-answer.ensures.answer) c.same.ensures
