@@ -18,7 +18,7 @@ use Rattle.data_object_root.specs.Root.{refused_words, CheckedBy, CheckedRoot}
 use Rattle.data_object_theorems.specs.Joint.{Fails, Joint}
 use Rattle.data_object_theorems.proofs.Joint.{joint}
 use Rattle.data_object_theorems.specs.Checks24.{check_root_not_24}
-use Rattle.data_object_theorems.specs.JointRoot.{WordsWith, RefusesBy, JointBy, JointRoot}
+use Rattle.data_object_theorems.specs.JointRoot.{JointBy, JointRoot}
 
 -- the object of a file that is refused
 abbrev rejected : Refusal → DataObject

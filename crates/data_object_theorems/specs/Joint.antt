@@ -10,7 +10,7 @@ use Rattle.grammar.specs.Walk.{stopped, entry_limit}
 use Rattle.data_object_check.specs.declared.HeaderFigures.{HeaderFigures}
 use Rattle.data_object_check.specs.declared.CheckAnswer.{CheckAnswer}
 use Rattle.data_object_check.specs.declared.CheckAnswer.TheVariants as checks
-use Rattle.data_object_check.specs.Checked.{figures, checked}
+use Rattle.data_object_check.specs.Checked.{checked}
 use Rattle.data_object.specs.declared.Answer.TheVariants as answers
 use Rattle.data_object.specs.declared.DataObject.{DataObject}
 use Rattle.data_object.specs.Decoded.{Decoded}

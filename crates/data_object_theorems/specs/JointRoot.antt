@@ -1,7 +1,7 @@
 -- Checking a file's root and filling a table with it, for every file and table: as of a header at a position (Joint), in the words that are handed
 -- over. Assumes nothing: these are definitions.
 use Rattle.std.specs.Prelude.{ℕ, ◌/◌, ◌≤◌, ◌≡◌, List}
-use Rattle.format.specs.Format.{Out, refused}
+use Rattle.format.specs.Format.{Out}
 use Rattle.records.specs.declared.Refusal.{Refusal}
 use Rattle.row.specs.Rows.{row_words}
 use Rattle.super_block.specs.declared.SuperBlock.{SuperBlock}

@@ -1,6 +1,6 @@
 -- The largest file, with its number, for every file: above 2,147,483,648 bytes a check, the call and a superblock are 2, and up to there none is; a
 -- width that is not 2 to 8 is 1 whatever the length. Assumes nothing.
-use Rattle.std.specs.Prelude.{ℕ, ◌/◌, ◌-◌, ◌≤◌, ◌<◌, ◌≡◌, Bool, List, length, leb, ltb}
+use Rattle.std.specs.Prelude.{ℕ, ◌/◌, ◌≤◌, ◌<◌, ◌≡◌, Bool, List, length, leb, ltb}
 use Rattle.std.proofs.Math.Path.{refl}
 use Rattle.std.proofs.Common.{ap, ◌∙◌, arith}
 use Rattle.std.proofs.Math.Bool.{true, false}

@@ -1,5 +1,5 @@
 -- The message that a lookup's answer leads to, in the reading of the header. Assumes nothing: these are definitions.
-use Rattle.std.specs.Prelude.{ℕ, zero, suc, ◌+◌, ◌-◌, ◌≤◌, ◌<◌, ◌≡◌, List, [], ◌∷◌, length, take, drop}
+use Rattle.std.specs.Prelude.{ℕ, zero, suc, ◌+◌, ◌≤◌, ◌<◌, ◌≡◌, List, [], ◌∷◌, length, take, drop}
 use Rattle.records.specs.declared.Attribute.{Attribute}
 use Rattle.grammar.specs.Message.{Message}
 use Rattle.grammar.specs.Message as messages

@@ -1,20 +1,17 @@
 -- Laws of the walk that fills a table: an entry in one equation, and what each step and each turn of a run gives. Assumes nothing.
-use Prim.Native.Nat.{ℕ, zero, suc, ◌+◌, ◌-◌, ◌*◌, ◌≤◌, ◌<◌}
-use Rattle.std.specs.Prelude.{◌≡◌, Bool, true, false, List, [], ◌∷◌, ◌++◌, length, drop, ltb, eqb}
+use Prim.Native.Nat.{ℕ, zero, suc, ◌+◌, ◌-◌, ◌≤◌, ◌<◌}
+use Rattle.std.specs.Prelude.{◌≡◌, Bool, true, false, List, ◌∷◌, length, ltb}
 use Rattle.std.proofs.Math.Path.{refl, ap}
-use Rattle.std.proofs.Common.{sym, ◌∙◌, length-append}
+use Rattle.std.proofs.Common.{◌∙◌}
 use native.Mathlib.Omega.{arith}
 use borrow.Author.Tests.{ne_eqb}
 use Rattle.format.specs.Format.{Out, found, refused, read}
 use Rattle.grammar.specs.Message.{Held, message, continuation}
-use Rattle.row.specs.Rows.{row_words, encode, put_all}
-use Rattle.row.specs.RowLaws.{put_all_eq, put_all-append}
-use Rattle.grammar.specs.Table.{messages, rows_of}
-use Rattle.grammar.specs.TableLaws.{rows_of-append, length-rows_of, messages-append, messages_few}
+use Rattle.grammar.specs.Table.{messages}
+use Rattle.grammar.specs.TableLaws.{messages_few}
 use Rattle.grammar.specs.Grammar.{Source, Item, item, ochk, block_end, header_end}
-use Rattle.grammar.specs.Walk.{choose, Went, reached, stopped, and_then, begun, Count, counted, Limits, hold, entry_by, block_by, entry_at, run_at, walk}
-use Rattle.grammar.specs.WalkLaws.{First, first, never}
-use Rattle.grammar.specs.Steps.{before}
+use Rattle.grammar.specs.Walk.{choose, Went, reached, stopped, and_then, begun, counted, Limits, hold, entry_by, block_by, entry_at, run_at}
+use Rattle.grammar.specs.WalkLaws.{First, first}
 use Rattle.grammar.specs.Advance.{deeper, entry_levels, advanced, run_at_goes, run_at_stops, run_at_ends, walk_stops, walk_unclosed, walk_closed}
 use Rattle.grammar.specs.Filled.{Walked, count, grown, tell, state≡, grown_none, tell_before, untold, entry_on, run_on, walk_on, inner, hold_on}
 

@@ -7,7 +7,7 @@ use Rattle.records.specs.declared.OptionPart.TheVariants as parts
 use Rattle.records.specs.Refusals.{refusal_number}
 use Rattle.records.specs.declared.Refusal.{Refusal}
 use Rattle.row.specs.declared.Row.{Row}
-use Rattle.row.specs.Rows.{row_at, part_at, encode}
+use Rattle.row.specs.Rows.{row_at, part_at}
 use Rattle.lookup.specs.Lookup.{Bears, Looked}
 use Rattle.lookup.specs.declared.LookupAnswer.TheVariants as lookups
 use Rattle.lookup_names.specs.declared.NamesAnswer.{NamesAnswer}
@@ -15,7 +15,7 @@ use Rattle.lookup_names.specs.declared.NamesAnswer.TheVariants as answered
 use Rattle.lookup_names.specs.Names.{name_at, NameAnswered, RefusedAs, LookedNames}
 use Rattle.lookup_names.specs.Facts.{leaving, looked_up, zeros}
 use Rattle.lookup_names.specs.Unique.{looked_names_unique}
-use Rattle.lookup_names.specs.Samples.{file, attribute, table, text, names, answers}
+use Rattle.lookup_names.specs.Samples.{file, table, text, names, answers}
 
 own_name : (row : Row) (p : Part) (wanted : List ℕ) → row.name ≡ parts.Some p → Bears file row wanted → take p.length (drop p.position file) ≡ wanted
 own_name row p wanted e h = let d : p ≡ h.name = cc (e, h.present) in ap (λ (q : Part). take q.length (drop q.position file)) d ∙ h.bytes

@@ -11,7 +11,7 @@ use borrow.Author.Tests.{eq-eqb, ne_eqb, le-leb}
 use Rattle.format.specs.Bits.{bit}
 use Rattle.format.specs.Bytes.{le}
 use Rattle.format.specs.Covers.{forward}
-use Rattle.format.specs.Format.{Format, done, skip, here, bind, pick, nothing, Stands}
+use Rattle.format.specs.Format.{Format, done, skip, here, bind, pick, Stands}
 use Rattle.format.specs.Standing.{stands_bind, stands_check, bind_stands}
 use Rattle.records.specs.declared.Attribute as ours
 use Rattle.records.specs.declared.Value.{Value}

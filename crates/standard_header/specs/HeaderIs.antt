@@ -5,7 +5,6 @@ use Rattle.format.specs.Format.{Stands}
 use Rattle.parser.specs.declared.State.{State}
 use Rattle.grammar.specs.Message.{Message, message, continuation, row_of}
 use Rattle.grammar.specs.Grammar.{Item, item}
-use Rattle.ohdr_entry.specs.Entries.{body}
 use Rattle.standard.specs.Headers.{HeaderMessage, header_message, continuation_signature, ObjectHeaderPrefix, object_header_prefix}
 use Rattle.standard.specs.Chunks.{ChecksumStands, ObjectHeader}
 use Rattle.standard_header.specs.Same.{SameEntries, SameHeader, OneByOne, SameMessage, no_continuations}
@@ -15,7 +14,6 @@ use Rattle.grammar.specs.Table.{messages_of, messages, rows_of}
 use Rattle.grammar.specs.Each.{All}
 use Rattle.data_object_header.specs.declared.HeaderFields.{HeaderFields}
 use Rattle.records.specs.Defaults.{default_data_space, default_link_info, default_group_info, default_attribute_info, default_data_type, default_data_layout}
-use Rattle.grammar.specs.Message as messages
 use Rattle.data_object_winners.specs.Wins.{Wins}
 use Rattle.row.specs.Clearing.{table}
 use Rattle.parser.specs.States.{state_for}

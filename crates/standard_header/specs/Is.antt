@@ -1,6 +1,6 @@
 -- What one message of a reading is, in the words of the specification: its entry a header message, its body the message of its type. Entries are those of
 -- docs/DIFFERENCES.md, part one. Assumes nothing: these are definitions.
-use Rattle.std.specs.Prelude.{ℕ, ◌≤◌, ◌+◌, ◌-◌, ◌<◌, ◌≡◌, ◌⊎◌, List, [], ◌∷◌, length}
+use Rattle.std.specs.Prelude.{ℕ, ◌≤◌, ◌+◌, ◌<◌, ◌≡◌, ◌⊎◌, List, [], ◌∷◌}
 use Rattle.format.specs.Bytes.{AreBytes}
 use Rattle.format.specs.Format.{Stands}
 use Rattle.records.specs.declared.OptionPart.{OptionPart}
@@ -20,12 +20,8 @@ use Rattle.row.specs.declared.Row.{Row}
 use Rattle.parser.specs.declared.State.{State}
 use Rattle.grammar.specs.Message.{Kept, Message}
 use Rattle.grammar.specs.Message as messages
-use Rattle.ohdr_info.specs.Info.{link_info, group_info, attribute_info}
-use Rattle.ohdr_layout.specs.DataLayouts.{data_layout}
-use Rattle.ohdr_datatype.specs.DataTypes.{data_type, type_levels}
-use Rattle.ohdr_dataspace.specs.DataSpaces.{data_space}
-use Rattle.ohdr_attribute.specs.Attributes.{attribute}
-use Rattle.ohdr_entry.specs.Entries.{body, prefix}
+use Rattle.ohdr_datatype.specs.DataTypes.{type_levels}
+use Rattle.ohdr_entry.specs.Entries.{body}
 use Rattle.standard.specs.Tie.{Stood, Every}
 use Rattle.standard.specs.Dataspaces.{dataspace_message}
 use Rattle.standard.specs.Datatypes.{datatype_message}

@@ -1,6 +1,6 @@
 -- What is read of a header, of an entry and of a continuation, beside the specification's fields; and the entries of a reading beside its header messages,
 -- one by one. Entries are those of docs/DIFFERENCES.md, part one. Assumes nothing: these are definitions.
-use Rattle.std.specs.Prelude.{ℕ, ◌≡◌, List, [], ◌∷◌, length, eqb}
+use Rattle.std.specs.Prelude.{ℕ, ◌≡◌, List, [], ◌∷◌, eqb}
 use Rattle.format.specs.Format.{pick}
 use Rattle.parser.specs.declared.State.{State}
 use Rattle.grammar.specs.Message.{Message, Held, message, continuation}

@@ -1,6 +1,6 @@
 -- When a superblock of the specification is read. Each condition names the entry of docs/DIFFERENCES.md, part one, that it excludes.
 -- Assumes nothing: these are definitions.
-use Rattle.std.specs.Prelude.{ℕ, ◌-◌, ◌≤◌, ◌≡◌, true, List, length}
+use Rattle.std.specs.Prelude.{ℕ, ◌≤◌, ◌≡◌, true, List, length}
 use Rattle.parser.specs.States.{file_limit, width_allowed}
 use Rattle.standard.specs.Fields.{defined}
 use Rattle.standard.specs.Superblocks.{Superblock, ValidChecksum}

@@ -1,5 +1,5 @@
 -- What the superblock that is read has of the specification's. Assumes nothing: these are definitions.
-use Rattle.std.specs.Prelude.{◌-◌, ◌≡◌}
+use Rattle.std.specs.Prelude.{◌≡◌}
 use Rattle.super_block.specs.declared.SuperBlock.{SuperBlock}
 use Rattle.standard.specs.Fields.{defined}
 use Rattle.standard.specs.Superblocks.{Superblock}

@@ -1,5 +1,4 @@
 -- Case by case.
-use borrow.Author.Rules.{rules}
 use Rattle.firmware.proofs.address_words.Goals as goal
 
 pub returns-in-Undefined : goal.returns-in-Undefined

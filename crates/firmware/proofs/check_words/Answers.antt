@@ -1,6 +1,5 @@
 -- Case by case, a refusal by its number.
 use mathlib.Core.Path.{refl}
-use borrow.Author.Rules.{rules}
 use Rattle.firmware.proofs.check_words.Goals as goal
 
 pub returns-in-Passed : goal.returns-in-Passed

@@ -1,7 +1,6 @@
 -- Both tests together say that the part lies in the file; if one fails, the part leaves it.
 use Rattle.firmware.specs.Laws.{part_lies, part_leaves}
 use native.Mathlib.Omega.{arith}
-use borrow.Author.Rules.{rules}
 use Rattle.firmware.proofs.dowringaf_layout_data.Goals as goal
 
 pub returns-then-file-position : goal.returns-then-file-position

@@ -1,5 +1,4 @@
 -- The words are those of the answer, which is the superblock's reading.
-use borrow.Author.Rules.{rules}
 use Rattle.firmware.proofs.dowringaf_super_block.Goals as goal
 
 pub returns : goal.returns

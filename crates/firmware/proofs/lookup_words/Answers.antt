@@ -1,5 +1,4 @@
 -- Case by case, a refusal by its number.
-use borrow.Author.Rules.{rules}
 use Rattle.firmware.proofs.lookup_words.Goals as goal
 
 pub returns-in-At : goal.returns-in-At

@@ -1,5 +1,4 @@
 -- Case by case, a refusal by its number.
-use borrow.Author.Rules.{rules}
 use Rattle.firmware.proofs.names_word.Goals as goal
 
 pub returns-in-Refused : goal.returns-in-Refused

@@ -1,5 +1,4 @@
 -- Case by case.
-use borrow.Author.Rules.{rules}
 use Rattle.firmware.proofs.super_block_words.Goals as goal
 
 pub returns-in-Refused : goal.returns-in-Refused

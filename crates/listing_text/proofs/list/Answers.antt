@@ -2,7 +2,6 @@
 use borrow.Author.Tests.{lt-ltb, le-ltb}
 use Rattle.listing_text.specs.Laws.{wrote_counts}
 use Rattle.listing_text.specs.Listing.{root_text, listing_of}
-use borrow.Author.Rules.{rules}
 use Rattle.listing_text.proofs.list.Goals as goal
 
 pub returns-then-file-gt65536-clause-counts : goal.returns-then-file-gt65536-clause-counts

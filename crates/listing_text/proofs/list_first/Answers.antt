@@ -1,7 +1,6 @@
 -- The bytes that are counted, or all where the count is beyond them: then those are the first so many too.
 use lib.Seq.{length-take-le, take_all}
 use mathlib.Core.Path.{sym}
-use borrow.Author.Rules.{rules}
 use native.Mathlib.Omega.{arith}
 use Rattle.listing_text.proofs.list_first.Goals as goal
 

@@ -1,13 +1,8 @@
 -- After each turn the lines of the rows so far are written, each in at most 189 bytes.
-use Prim.Native.Nat.{◌≤◌, ◌-◌, ◌*◌}
 use mathlib.Core.Path.{◌≡◌, refl}
 use native.Mathlib.Omega.{arith}
 use borrow.Author.Rules.{rules}
-use lib.ListN.{length}
-use Rattle.text.specs.Text.{Wrote}
 use Rattle.text.proofs.Laws.{then, wrote_none}
-use Rattle.row.specs.Rows.{first_rows}
-use Rattle.listing_text.specs.Listing.{lines_of}
 use Rattle.listing_text.specs.Laws.{lines_more}
 use Rattle.listing_text.proofs.put_lines.Goals as goal
 

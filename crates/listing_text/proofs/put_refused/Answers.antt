@@ -1,7 +1,6 @@
 -- The word and the number are written one after another.
 use Rattle.text.proofs.Laws.{then}
 use Rattle.listing_text.specs.Listing.{refused_of}
-use borrow.Author.Rules.{rules}
 use Rattle.listing_text.proofs.put_refused.Goals as goal
 
 pub returns : goal.returns

@@ -2,7 +2,6 @@
 use borrow.Author.Tests.{eq-eqb, ne_eqb}
 use Rattle.text.proofs.Laws.{then}
 use Rattle.listing_text.specs.Listing.{words_text}
-use borrow.Author.Rules.{rules}
 use Rattle.listing_text.proofs.put_result.Goals as goal
 
 pub returns-then-refused-ne0 : goal.returns-then-refused-ne0

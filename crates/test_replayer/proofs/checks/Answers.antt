@@ -3,7 +3,6 @@ use mathlib.Core.Path.{ap, ◌∙◌}
 use Rattle.listing_text.specs.Laws.{wrote_all, wrote_counts}
 use Rattle.test_replayer.specs.Checks.{check_line, check_text}
 use Rattle.test_replayer.specs.Laws.{compared}
-use borrow.Author.Rules.{rules}
 use Rattle.test_replayer.proofs.checks.Goals as goal
 
 pub slice_bounds-line-end : goal.slice_bounds-line-end

@@ -1,5 +1,4 @@
 -- The flag decides which text it is.
-use borrow.Author.Rules.{rules}
 use Rattle.test_replayer.proofs.expect_text.Goals as goal
 
 pub returns-then-numbers : goal.returns-then-numbers

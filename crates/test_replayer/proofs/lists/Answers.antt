@@ -1,6 +1,5 @@
 -- What was written is the listing, so comparing it with what is expected decides.
 use Rattle.test_replayer.specs.Laws.{compared}
-use borrow.Author.Rules.{rules}
 use Rattle.test_replayer.proofs.lists.Goals as goal
 
 pub returns : goal.returns

@@ -2,7 +2,6 @@
 use lib.ListN.{length-take}
 use native.Mathlib.Omega.{arith}
 use Rattle.test_replayer.specs.Laws.{part_rest, parts_short, parts_other, parts_same}
-use borrow.Author.Rules.{rules}
 use Rattle.test_replayer.proofs.lists_header.Goals as goal
 
 pub slice_bounds-same-end-then-n-expected : goal.slice_bounds-same-end-then-n-expected

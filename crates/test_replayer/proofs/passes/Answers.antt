@@ -1,5 +1,4 @@
 -- Case by case: what the call promises is what is promised here.
-use borrow.Author.Rules.{rules}
 use Rattle.test_replayer.proofs.passes.Goals as goal
 
 pub returns-in-Listing : goal.returns-in-Listing

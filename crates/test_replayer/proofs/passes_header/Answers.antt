@@ -1,7 +1,6 @@
 -- Without a lead nothing passes, by whichever text; with one, the file is what is left behind it.
 use native.Mathlib.Omega.{arith}
 use Rattle.test_replayer.specs.Laws.{lead_inside, part_rest}
-use borrow.Author.Rules.{rules}
 use Rattle.test_replayer.proofs.passes_header.Goals as goal
 
 pub returns-in_default : goal.returns-in_default

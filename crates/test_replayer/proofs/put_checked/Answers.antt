@@ -1,6 +1,5 @@
 -- Each case has its line: the figures, or the refusal's number.
 use Rattle.test_replayer.specs.Checks.{check_line}
-use borrow.Author.Rules.{rules}
 use Rattle.test_replayer.proofs.put_checked.Goals as goal
 
 pub returns-in-Passed : goal.returns-in-Passed

@@ -1,7 +1,6 @@
 -- The word and the three figures are written one after another.
 use Rattle.text.proofs.Laws.{then}
 use Rattle.test_replayer.specs.Checks.{passed_line}
-use borrow.Author.Rules.{rules}
 use Rattle.test_replayer.proofs.put_passed.Goals as goal
 
 pub returns : goal.returns

@@ -1,7 +1,6 @@
 -- Each of the four numbers is one step of the format, so the answer is its reading.
 use Rattle.format.specs.Steps.{read_number, read_done}
 use Rattle.test_replayer.specs.Leads.{lead}
-use borrow.Author.Rules.{rules}
 use Rattle.test_replayer.proofs.read_lead.Goals as goal
 
 pub returns-in_default : goal.returns-in_default

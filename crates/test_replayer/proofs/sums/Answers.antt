@@ -1,6 +1,5 @@
 -- Four bytes are compared as a number with the sum; another number of bytes is no sum.
 use Rattle.test_replayer.specs.Laws.{sum_compared, sum_other}
-use borrow.Author.Rules.{rules}
 use Rattle.test_replayer.proofs.sums.Goals as goal
 
 pub returns-then-expected-eq4 : goal.returns-then-expected-eq4

@@ -1,6 +1,5 @@
 -- A text that was met is all that is expected just where no byte is left; one that differs never is.
 use Rattle.test_report.specs.FollowsLaws.{whole_at, whole_not}
-use borrow.Author.Rules.{rules}
 use Rattle.test_report.proofs.ends.Goals as goal
 
 pub returns-in-At : goal.returns-in-At

@@ -1,7 +1,6 @@
 -- The bytes stand next just where as many are left and these are the same.
 use Rattle.test_report.specs.FollowsLaws.{met_none, too_few, next_is, next_is_not}
 use native.Mathlib.Omega.{arith}
-use borrow.Author.Rules.{rules}
 use Rattle.test_report.proofs.expect_bytes.Goals as goal
 
 pub returns-in_default : goal.returns-in_default

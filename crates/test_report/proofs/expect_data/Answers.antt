@@ -1,7 +1,6 @@
 -- The word, the piece and the newline are met one after another.
 use Rattle.test_report.specs.Report.{data_of}
 use Rattle.test_report.specs.FollowsLaws.{then}
-use borrow.Author.Rules.{rules}
 use Rattle.test_report.proofs.expect_data.Goals as goal
 
 pub returns : goal.returns

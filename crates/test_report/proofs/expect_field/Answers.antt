@@ -2,7 +2,6 @@
 use mathlib.Core.Path.{ap}
 use lib.ListN.{length}
 use native.Mathlib.Omega.{arith}
-use borrow.Author.Rules.{rules}
 use Rattle.test_report.proofs.expect_field.Goals as goal
 
 pub slice_bounds-expect_bytes-end : goal.slice_bounds-expect_bytes-end

@@ -1,7 +1,6 @@
 -- The four figures are met one after another.
 use Rattle.test_report.specs.Report.{head_of}
 use Rattle.test_report.specs.FollowsLaws.{then}
-use borrow.Author.Rules.{rules}
 use Rattle.test_report.proofs.expect_head.Goals as goal
 
 pub returns : goal.returns

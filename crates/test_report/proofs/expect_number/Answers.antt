@@ -1,7 +1,6 @@
 -- The two figures are met one after another.
 use Rattle.test_report.specs.Report.{number_line}
 use Rattle.test_report.specs.FollowsLaws.{then}
-use borrow.Author.Rules.{rules}
 use Rattle.test_report.proofs.expect_number.Goals as goal
 
 pub returns : goal.returns

@@ -1,7 +1,6 @@
 -- The first word tells a refusal from a reading, of which the numbers are met.
 use Rattle.test_report.specs.Report.{numbers_of}
 use borrow.Author.Tests.{ne_eqb, eq-eqb}
-use borrow.Author.Rules.{rules}
 use Rattle.test_report.proofs.expect_numbers.Goals as goal
 
 pub returns-then-words-ne0 : goal.returns-then-words-ne0

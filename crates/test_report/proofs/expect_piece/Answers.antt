@@ -1,7 +1,6 @@
 -- A hyphen is met, or the length of the part and then its bytes, one after the other.
 use Rattle.test_report.specs.Report.{piece_of}
 use Rattle.test_report.specs.FollowsLaws.{then}
-use borrow.Author.Rules.{rules}
 use Rattle.test_report.proofs.expect_piece.Goals as goal
 
 pub returns-in-None : goal.returns-in-None

@@ -1,7 +1,6 @@
 -- Each record's word and its figures are met one after another.
 use Rattle.test_report.specs.Report.{records_of}
 use Rattle.test_report.specs.FollowsLaws.{then}
-use borrow.Author.Rules.{rules}
 use Rattle.test_report.proofs.expect_records.Goals as goal
 
 pub returns : goal.returns

@@ -1,6 +1,5 @@
 -- The bytes that are compared are the text.
 use Rattle.test_report.specs.Report.{refused_of}
-use borrow.Author.Rules.{rules}
 use Rattle.test_report.proofs.expect_refused.Goals as goal
 
 pub returns : goal.returns

@@ -2,7 +2,6 @@
 use Rattle.test_report.specs.Report.{answer_of, report_of}
 use Rattle.test_report.specs.FollowsLaws.{then}
 use borrow.Author.Tests.{ne_eqb, eq-eqb}
-use borrow.Author.Rules.{rules}
 use Rattle.test_report.proofs.expect_report.Goals as goal
 
 pub returns-then-words-ne0 : goal.returns-then-words-ne0

@@ -1,7 +1,6 @@
 -- The head, the two pieces and what stands between them are met one after another.
 use Rattle.test_report.specs.Report.{row_line}
 use Rattle.test_report.specs.FollowsLaws.{then}
-use borrow.Author.Rules.{rules}
 use Rattle.test_report.proofs.expect_row.Goals as goal
 
 pub returns : goal.returns

@@ -1,12 +1,8 @@
 -- After each turn the lines of the rows so far are met.
 use borrow.Author.Rules.{rules}
-use Rattle.test_report.specs.Follows.{Follows}
-use Rattle.test_report.specs.Report.{row_lines}
 use Rattle.test_report.specs.Laws.{lines_more}
-use Rattle.row.specs.Rows.{first_rows}
 use native.Mathlib.Omega.{arith}
 use mathlib.Core.Path.{◌≡◌}
-use Prim.Native.Nat.{◌≤◌, ◌-◌}
 use Rattle.test_report.specs.FollowsLaws.{then, follows_none}
 use Rattle.test_report.proofs.expect_rows.Goals as goal
 

@@ -1,12 +1,9 @@
 -- After each turn the figures so far are met, and the last ends the line.
 use Rattle.test_report.specs.Laws.{figures_none, figures_more}
-use Rattle.test_report.specs.Report.{figures_of, words_line}
+use Rattle.test_report.specs.Report.{words_line}
 use Rattle.test_report.specs.FollowsLaws.{then, follows_none}
-use Rattle.test_report.specs.Follows.{Follows}
-use Prim.Native.Nat.{◌≤◌, ◌-◌}
 use mathlib.Core.Path.{◌≡◌}
 use native.Mathlib.Omega.{arith}
-use borrow.Author.Rules.{rules}
 use Rattle.test_report.proofs.expect_words.Goals as goal
 
 pub loop-i-init : goal.loop-i-init
