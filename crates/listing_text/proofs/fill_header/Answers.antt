@@ -1,5 +1,5 @@
 -- What the words and the rows tell is written, and it is what filling a table of 512 rows gives.
-use Rattle.listing_text.specs.Laws.{lent_listed, lent_rows}
+use Rattle.listing_text.proofs.Laws.{lent_listed, lent_rows}
 use borrow.Author.Rules.{rules}
 use Rattle.listing_text.proofs.fill_header.Goals as goal
 

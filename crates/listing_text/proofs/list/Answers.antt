@@ -1,6 +1,6 @@
 -- By the size and by the superblock: a refusal is written, or the listing of the root's header.
 use borrow.Author.Tests.{lt-ltb, le-ltb}
-use Rattle.listing_text.specs.Laws.{wrote_counts}
+use Rattle.listing_text.proofs.Laws.{wrote_counts}
 use Rattle.listing_text.specs.Listing.{root_text, listing_of}
 use Rattle.listing_text.proofs.list.Goals as goal
 

@@ -1,6 +1,6 @@
 -- The check's refusal is written, or what the filling gives; which of them is the listing says the definition's own check.
 use mathlib.Core.Path.{◌∙◌}
-use Rattle.listing_text.specs.Laws.{wrote_counts, check_refused, check_passed}
+use Rattle.listing_text.proofs.Laws.{wrote_counts, check_refused, check_passed}
 use Rattle.listing_text.proofs.list_header.Goals as goal
 
 pub returns-in-Refused-clause-counts : goal.returns-in-Refused-clause-counts

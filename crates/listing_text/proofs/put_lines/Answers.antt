@@ -3,7 +3,7 @@ use mathlib.Core.Path.{◌≡◌, refl}
 use native.Mathlib.Omega.{arith}
 use borrow.Author.Rules.{rules}
 use Rattle.text.proofs.Laws.{then, wrote_none}
-use Rattle.listing_text.specs.Laws.{lines_more}
+use Rattle.listing_text.proofs.Laws.{lines_more}
 use Rattle.listing_text.proofs.put_lines.Goals as goal
 
 pub loop-i-init : goal.loop-i-init

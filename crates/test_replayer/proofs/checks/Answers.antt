@@ -1,6 +1,6 @@
 -- What was written is the line of the check, so comparing it with what is expected decides.
 use mathlib.Core.Path.{ap, ◌∙◌}
-use Rattle.listing_text.specs.Laws.{wrote_all, wrote_counts}
+use Rattle.listing_text.proofs.Laws.{wrote_all, wrote_counts}
 use Rattle.test_replayer.specs.Checks.{check_line, check_text}
 use Rattle.test_replayer.specs.Laws.{compared}
 use Rattle.test_replayer.proofs.checks.Goals as goal
