@@ -1,8 +1,9 @@
 -- What decoding an object header into a lent table yields, for every input. Assumes nothing: these are definitions.
-use Rattle.std.specs.Prelude.{ℕ, ◌+◌, ◌/◌, ◌≤◌, ◌≡◌, List, [], length, take, drop, replicate, leb}
+use Rattle.std.specs.Prelude.{ℕ, ◌+◌, ◌/◌, ◌≤◌, ◌≡◌, List, [], length, take, drop, replicate, leb, Result, Ok, Err}
 use Rattle.format.specs.Format.{Out, found, refused, pick}
 use Rattle.records.specs.Refusals.{refusal_number}
 use Rattle.records.specs.declared.Part.{Part}
+use Rattle.records.specs.declared.Refusal.{Refusal}
 use Rattle.row.specs.Rows.{row_words}
 use Rattle.row.specs.Clearing.{table}
 use Rattle.grammar.specs.Grammar.{Item}
@@ -10,14 +11,12 @@ use Rattle.grammar.specs.Table.{messages_of, messages, rows_of}
 use Rattle.grammar.specs.Walk.{Went, reached, stopped, lent}
 use Rattle.data_object_header.specs.Headers.{decode, Checkable}
 use Rattle.data_object_winners.specs.Wins.{Wins, defaults, wins_of}
-use Rattle.data_object.specs.declared.Answer.{Answer}
-use Rattle.data_object.specs.declared.Answer.TheVariants as answers
 use Rattle.data_object.specs.declared.DataObject.{DataObject}
 
 -- next position and count, or the number of a refusal
-abbrev pub answer_out : Answer → Out ℕ
-answer_out (answers.Read next count) = found count next
-answer_out (answers.Refused r) = refused (refusal_number r)
+abbrev pub answer_out : Result (ℕ × ℕ) Refusal → Out ℕ
+answer_out (Ok (next, count)) = found count next
+answer_out (Err r) = refused (refusal_number r)
 
 -- of the definition's items the count
 abbrev pub counts : Went (List Item) → Out ℕ
@@ -61,9 +60,9 @@ module _ (file : List ℕ) (offsets lengths end at n : ℕ) where
     pub records : wins_in r ≡ defaults
 
   -- by the answer
-  abbrev pub Meant : Answer → DataObject → List ℕ → Type 0
-  Meant (answers.Read next count) r t = Accepted next count r t
-  Meant (answers.Refused x) r t = Rejected r t
+  abbrev pub Meant : Result (ℕ × ℕ) Refusal → DataObject → List ℕ → Type 0
+  Meant (Ok (next, count)) r t = Accepted next count r t
+  Meant (Err x) r t = Rejected r t
 
   -- The contract. The definition gives next position, count and rows, or the refusal's number. What is accepted has a reading, with its end, its
   -- entries, its messages in the table and its records; and whatever has a reading is accepted, with it.
@@ -71,7 +70,7 @@ module _ (file : List ℕ) (offsets lengths end at n : ℕ) where
     pub answer : answer_out r.answer ≡ counts decoded
     pub rows : r.rows ≡ rows_in decoded
     pub meant : Meant r.answer r t
-    pub accepts : (next : ℕ) (xs : List Item) → Readable next xs → r.answer ≡ answers.Read next (length xs)
+    pub accepts : (next : ℕ) (xs : List Item) → Readable next xs → r.answer ≡ Ok (next, length xs)
 
 -- the bytes of a part of the file; none where it leaves the file
 abbrev pub bytes_of : List ℕ → Part → List ℕ

@@ -1,5 +1,5 @@
 -- What the ways out of decoding say, put together: the walk's items give the answer, the rows, the table and the records. Assumes nothing.
-use Rattle.std.specs.Prelude.{ℕ, ◌-◌, ◌*◌, ◌/◌, ◌≤◌, ◌≡◌, refl, List, ◌++◌, length, take, drop, replicate}
+use Rattle.std.specs.Prelude.{ℕ, ◌-◌, ◌*◌, ◌/◌, ◌≤◌, ◌≡◌, refl, List, ◌++◌, length, take, drop, replicate, Result, Ok, Err}
 use Rattle.std.proofs.Common.{sym, ap, ap₂, ◌∙◌, arith}
 use Rattle.format.specs.Format.{Format, found}
 use Rattle.format.specs.Laws.{never}
@@ -31,19 +31,17 @@ use Rattle.data_object_winners.specs.Wins.{Wins, defaults, wins_of}
 use Rattle.data_object_winners.specs.Winners.{last_in, winner}
 use Rattle.data_object_winners.specs.WinnerLaws.{all_bodied, Won, won, space_won, type_won, link_won, group_won, info_won, layout_won}
 use Rattle.data_object.specs.Decoded.{answer_out, counts, rows_in, wins_in, decoded, Readable, Accepted, Meant, Decoded}
-use Rattle.data_object.specs.declared.Answer.{Answer}
-use Rattle.data_object.specs.declared.Answer.TheVariants as answers
 use Rattle.data_object.specs.declared.DataObject.{DataObject}
 
 -- a refusal, no row, and the defaults
 pub record RejectedAs (x : Refusal) (r : DataObject) : Type 0 where
-  pub answer : r.answer ≡ answers.Refused x
+  pub answer : r.answer ≡ Err x
   pub rows : r.rows ≡ 0
   pub records : wins_in r ≡ defaults
 
 -- the end of a walk, and the records read at the last bodies of its table
 pub record Built (file t : List ℕ) (p : Progress) (s : State) (r : DataObject) : Type 0 where
-  pub answer : r.answer ≡ answers.Read p.at p.entries
+  pub answer : r.answer ≡ Ok (p.at, p.entries)
   pub rows : r.rows ≡ p.rows
   pub ds : r.ds ≡ winner file (data_space s) default_data_space (last_in t 1 p.rows)
   pub dt : r.dt ≡ winner file (data_type type_levels) default_data_type (last_in t 3 p.rows)
@@ -51,6 +49,10 @@ pub record Built (file t : List ℕ) (p : Progress) (s : State) (r : DataObject)
   pub gi : r.gi ≡ winner file group_info default_group_info (last_in t 10 p.rows)
   pub ai : r.ai ≡ winner file (attribute_info s) default_attribute_info (last_in t 21 p.rows)
   pub layout : r.layout ≡ winner file (data_layout s) default_data_layout (last_in t 8 p.rows)
+
+-- the answer of an accepted header
+abbrev accepted : ℕ → ℕ → Result (ℕ × ℕ) Refusal
+accepted next count = Ok (next, count)
 
 pub wins≡ : {v w : Wins} → v.ds ≡ w.ds → v.dt ≡ w.dt → v.li ≡ w.li → v.gi ≡ w.gi → v.ai ≡ w.ai → v.layout ≡ w.layout → v ≡ w
 wins≡ a b c d e f = λ i. record { ds = a i; dt = b i; li = c i; gi = d i; ai = e i; layout = f i }
@@ -119,16 +121,16 @@ module _ (file : List ℕ) (offsets lengths end at n : ℕ) where
             answer = ap answer_out b.answer ∙ ap (λ (k : ℕ). found k p.at) w.entries ∙ sym (ap counts w.reaches);
             rows = b.rows ∙ w.rows ∙ sym (ap rows_in w.reaches);
             meant = rw b.answer (record { items = w.items; readable = readable; entries = w.entries; rows = b.rows ∙ w.rows; table = cleared; records = records r b });
-            accepts = λ next xs y. b.answer ∙ ap (answers.Read p.at) w.entries ∙ same_reached (λ (ys : List Item) (q : ℕ). answers.Read q (length ys)) (sym w.reaches ∙ complete next xs y);
+            accepts = λ next xs y. b.answer ∙ ap (accepted p.at) w.entries ∙ same_reached (λ (ys : List Item) (q : ℕ). accepted q (length ys)) (sym w.reaches ∙ complete next xs y);
           }
 
   -- the rows that are filled are in the table
   pub rows_room : (r : DataObject) (t : List ℕ) → Decoded file offsets lengths end at n r t → r.rows ≤ n / row_words
   rows_room r t d = go r.answer d.meant
     where
-      go : (a : Answer) → Meant file offsets lengths end at n a r t → r.rows ≤ n / row_words
-      go (answers.Read next count) m = omega (arith, m.rows, m.readable.room)
-      go (answers.Refused x) m = omega (arith, m.rows)
+      go : (a : Result (ℕ × ℕ) Refusal) → Meant file offsets lengths end at n a r t → r.rows ≤ n / row_words
+      go (Ok (next, count)) m = omega (arith, m.rows, m.readable.room)
+      go (Err x) m = omega (arith, m.rows)
 
   -- the rows of the table that an accepted header fills are those of its reading's messages
   pub accepted_rows : {next count : ℕ} {r : DataObject} {t : List ℕ} (a : Accepted file offsets lengths end at n next count r t) → first_rows t r.rows ≡ rows_of a.items

@@ -1,35 +1,34 @@
 -- Decoding has one answer, since the definition gives the answer and the rows, and a header's one reading the records and the table. Assumes nothing.
-use Rattle.std.specs.Prelude.{ℕ, ◌≡◌, List}
+use Rattle.std.specs.Prelude.{ℕ, ◌≡◌, List, Result, Ok, Err}
 use Rattle.std.proofs.Common.{sym, ap, ◌∙◌}
 use Rattle.format.specs.Laws.{never}
 use Rattle.records.specs.RefusalLaws.{refusal_unique}
+use Rattle.records.specs.declared.Refusal.{Refusal}
 use Rattle.row.specs.Clearing.{table}
 use Rattle.parser.specs.States.{state_for}
 use Rattle.grammar.specs.Grammar.{Item}
 use Rattle.grammar.specs.Table.{messages_of, rows_of}
 use Rattle.data_object_header.specs.HeaderLaws.{header_unique}
 use Rattle.data_object_winners.specs.Wins.{wins_of}
-use Rattle.data_object.specs.declared.Answer.{Answer}
-use Rattle.data_object.specs.declared.Answer.TheVariants as answers
 use Rattle.data_object.specs.declared.DataObject.{DataObject}
 use Rattle.data_object.specs.Decoded.{answer_out, wins_in, Meant, Decoded}
 
-pub answer_unique : (a b : Answer) → answer_out a ≡ answer_out b → a ≡ b
-answer_unique (answers.Read p k) (answers.Read q l) e = cc
-answer_unique (answers.Read p k) (answers.Refused y) e = never (sym e)
-answer_unique (answers.Refused x) (answers.Read q l) e = never e
-answer_unique (answers.Refused x) (answers.Refused y) e = ap answers.Refused (refusal_unique x y (cc))
+pub answer_unique : (a b : Result (ℕ × ℕ) Refusal) → answer_out a ≡ answer_out b → a ≡ b
+answer_unique (Ok (p, k)) (Ok (q, l)) e = cc
+answer_unique (Ok (p, k)) (Err y) e = never (sym e)
+answer_unique (Err x) (Ok (q, l)) e = never e
+answer_unique (Err x) (Err y) e = ap Err (refusal_unique x y (cc))
 
 module _ (file : List ℕ) (offsets lengths end at n : ℕ) where
-  meant_unique : (a b : Answer) (o o' : DataObject) {t t' : List ℕ} → Meant file offsets lengths end at n a o t → Meant file offsets lengths end at n b o' t' → (wins_in o ≡ wins_in o') × (t ≡ t')
-  meant_unique (answers.Read p k) (answers.Read q l) o o' m m' =
+  meant_unique : (a b : Result (ℕ × ℕ) Refusal) (o o' : DataObject) {t t' : List ℕ} → Meant file offsets lengths end at n a o t → Meant file offsets lengths end at n b o' t' → (wins_in o ≡ wins_in o') × (t ≡ t')
+  meant_unique (Ok (p, k)) (Ok (q, l)) o o' m m' =
       let same = header_unique file (state_for offsets lengths end) at p q m.items m'.items m.readable.checkable.reading m'.readable.checkable.reading in (
         m.records ∙ ap (λ (xs : List Item). wins_of (messages_of xs)) same.1 ∙ sym m'.records,
         m.table ∙ ap (λ (xs : List Item). table n (rows_of xs)) same.1 ∙ sym m'.table,
       )
-  meant_unique (answers.Read p k) (answers.Refused y) o o' m m' = absurd (m'.none p m.items m.readable)
-  meant_unique (answers.Refused x) (answers.Read q l) o o' m m' = absurd (m.none q m'.items m'.readable)
-  meant_unique (answers.Refused x) (answers.Refused y) o o' m m' = (m.records ∙ sym m'.records, m.table ∙ sym m'.table)
+  meant_unique (Ok (p, k)) (Err y) o o' m m' = absurd (m'.none p m.items m.readable)
+  meant_unique (Err x) (Ok (q, l)) o o' m m' = absurd (m.none q m'.items m'.readable)
+  meant_unique (Err x) (Err y) o o' m m' = (m.records ∙ sym m'.records, m.table ∙ sym m'.table)
 
   pub decoded_unique : (o o' : DataObject) (t t' : List ℕ) → Decoded file offsets lengths end at n o t → Decoded file offsets lengths end at n o' t' → (o ≡ o') × (t ≡ t')
   decoded_unique o o' t t' d d' =

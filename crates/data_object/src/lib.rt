@@ -10,7 +10,7 @@ ghost use Rattle.parser.specs.States.{Widths};
 ghost use Rattle.data_object.specs.Decoded.{Decoded, bytes_of};
 ghost use Rattle.data_object.specs.DecodedLaws.{Built, RejectedAs};
 
-use data_object_messages::{Messages, data_object_messages};
+use data_object_messages::data_object_messages;
 use data_object_winners::{
     last_rows, winning_attribute_info, winning_data_layout, winning_data_space, winning_data_type,
     winning_group_info, winning_link_info,
@@ -21,18 +21,11 @@ use parser::State;
 use records::{AttributeInfo, DataLayout, DataSpace, DataType, GroupInfo, LinkInfo, Part, Refusal};
 use row::{clear_behind, rows_in};
 
-// The next position and the entries read, or why the header is refused.
-#[derive(Drop)]
-pub enum Answer {
-    Read(usize, usize),
-    Refused(Refusal),
-}
-
-// An object header: the answer, the rows of the table that are filled, and the records that win; no
-// row and the defaults where it is refused.
-#[derive(Drop)]
+// An object header: the next position and the entries read, or why it is refused; the rows of the
+// table that are filled, and the records that win. Where it is refused, no row and the defaults.
+#[derive(Clone, Copy)]
 pub struct DataObject {
-    pub answer: Answer,
+    pub answer: Result<(usize, usize), Refusal>,
     pub rows: usize,
     pub dt: DataType,
     pub ds: DataSpace,
@@ -47,21 +40,15 @@ fn rejected(refusal: Refusal) -> DataObject
     ensures rejected_as { RejectedAs refusal result }
     ensures true_space { TrueSpace result.ds }
 {
-    let dt = DataType::default();
-    let ds = DataSpace::default();
-    let li = LinkInfo::default();
-    let ai = AttributeInfo::default();
-    let gi = GroupInfo::default();
-    let layout = DataLayout::default();
     DataObject {
-        answer: Answer::Refused(refusal),
+        answer: Err(refusal),
         rows: 0,
-        dt,
-        ds,
-        li,
-        ai,
-        gi,
-        layout,
+        dt: DataType::default(),
+        ds: DataSpace::default(),
+        li: LinkInfo::default(),
+        ai: AttributeInfo::default(),
+        gi: GroupInfo::default(),
+        layout: DataLayout::default(),
     }
 }
 
@@ -76,24 +63,17 @@ fn build_data_object_from_messages(
     ensures built { Built file.now table.now progress state result }
     ensures true_space { TrueSpace result.ds }
 {
-    let rows = progress.rows;
     let mut last = [0usize; 22];
-    last_rows(table, rows, &mut last);
-    let dt = winning_data_type(file, table, last[3]);
-    let ds = winning_data_space(file, table, last[1], state);
-    let li = winning_link_info(file, table, last[2], state);
-    let ai = winning_attribute_info(file, table, last[21], state);
-    let gi = winning_group_info(file, table, last[10]);
-    let layout = winning_data_layout(file, table, last[8], state);
+    last_rows(table, progress.rows, &mut last);
     DataObject {
-        answer: Answer::Read(progress.at, progress.entries),
-        rows,
-        dt,
-        ds,
-        li,
-        ai,
-        gi,
-        layout,
+        answer: Ok((progress.at, progress.entries)),
+        rows: progress.rows,
+        dt: winning_data_type(file, table, last[3]),
+        ds: winning_data_space(file, table, last[1], state),
+        li: winning_link_info(file, table, last[2], state),
+        ai: winning_attribute_info(file, table, last[21], state),
+        gi: winning_group_info(file, table, last[10]),
+        layout: winning_data_layout(file, table, last[8], state),
     }
 }
 
@@ -116,10 +96,9 @@ pub fn data_object(
     let limits = Limits {
         entries: 4096,
         beyond: Refusal::Entries,
-        rows: rows_in(table),
-        counts: false,
+        rows: Some(rows_in(table)),
     };
-    match data_object_messages(
+    let read = data_object_messages(
         file,
         table,
         position,
@@ -127,12 +106,13 @@ pub fn data_object(
         length_width,
         end_of_file,
         limits,
-    ) {
-        Messages::Refused(r, _) => {
+    );
+    match read {
+        Err(stopped) => {
             clear_behind(table, 0);
-            rejected(r)
+            rejected(stopped.refusal)
         }
-        Messages::Read(progress, state) => {
+        Ok((progress, state)) => {
             clear_behind(table, progress.rows);
             build_data_object_from_messages(file, table, progress, state)
         }

@@ -4,22 +4,16 @@
 
 ghost use Rattle.data_object_check.specs.Checked.{Checked};
 
-use data_object_messages::{Messages, data_object_messages};
+use data_object_messages::data_object_messages;
 use ohdr_closing::Limits;
 use records::Refusal;
 
 // The next position, the entries read, and the rows that the messages take.
-#[derive(Drop)]
+#[derive(Clone, Copy)]
 pub struct HeaderFigures {
     pub next: usize,
     pub entries: usize,
     pub rows: usize,
-}
-
-#[derive(Drop)]
-pub enum CheckAnswer {
-    Passed(HeaderFigures),
-    Refused(Refusal),
 }
 
 // The object header at a position: walked as where a table is filled, and nothing is stored.
@@ -29,27 +23,26 @@ pub fn check_data_object(
     offset_width: u64,
     length_width: u64,
     end_of_file: u64,
-) -> CheckAnswer
+) -> Result<HeaderFigures, Refusal>
     ensures { Checked file.now offset_width length_width end_of_file position result }
 {
     let limits = Limits {
         entries: 4096,
         beyond: Refusal::Entries,
-        rows: 0,
-        counts: true,
+        rows: None,
     };
-    let mut none = [0u64; 0];
-    match data_object_messages(
+    let read = data_object_messages(
         file,
-        &mut none,
+        &mut [],
         position,
         offset_width,
         length_width,
         end_of_file,
         limits,
-    ) {
-        Messages::Refused(r, _) => CheckAnswer::Refused(r),
-        Messages::Read(progress, _) => CheckAnswer::Passed(HeaderFigures {
+    );
+    match read {
+        Err(stopped) => Err(stopped.refusal),
+        Ok((progress, _)) => Ok(HeaderFigures {
             next: progress.at,
             entries: progress.entries,
             rows: progress.rows,

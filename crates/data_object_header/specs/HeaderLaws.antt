@@ -1,6 +1,6 @@
 -- Decoding accepts exactly the headers that have a reading within the limits, and gives that reading; no header has two: its fields stand in one
 -- way, and so does what follows them. Assumes nothing.
-use Rattle.std.specs.Prelude.{ℕ, ◌+◌, ◌%◌, ◌^◌, ◌≤◌, ◌<◌, ◌≡◌, not, ◌↔◌, List, length, eqb, leb}
+use Rattle.std.specs.Prelude.{ℕ, ◌+◌, ◌%◌, ◌^◌, ◌≤◌, ◌<◌, ◌≡◌, not, ◌↔◌, List, length, eqb, leb, Result, Ok, Err}
 use Rattle.std.proofs.Common.{sym, ◌∙◌, subst₂, arith, le-leb, leb-true}
 use Rattle.std.proofs.Math.Path.{ap}
 use Rattle.std.proofs.lemmas.Bool.{lt-leb}
@@ -12,9 +12,9 @@ use Rattle.format.specs.Covers.{forward, inside}
 use Rattle.format.specs.Standing.{stands_bind, stands_check}
 use Rattle.records.specs.Refusals.{refusal_number}
 use Rattle.records.specs.declared.Refusal.{Refusal}
+use Rattle.helpers.specs.Answers.{out}
 use Rattle.helpers.specs.Facts.{met}
 use Rattle.parser.specs.declared.State.{State}
-use Rattle.parser.specs.declared.NewState.TheVariants as states
 use Rattle.parser.specs.States.{file_limit, Widths, state_for, state_of}
 use Rattle.parser.specs.StateLaws.{made, unmade, allowed}
 use Rattle.grammar.specs.Grammar.{Item, Reading}
@@ -23,10 +23,7 @@ use Rattle.grammar.specs.WalkLaws.{first, was_found, found_then, refused_then, c
 use Rattle.grammar.specs.Theorems.{sound, complete}
 use Rattle.grammar.specs.Unique.{unique}
 use Rattle.ohdr_walk.specs.Sources.{source}
-use Rattle.data_object_header.specs.Answers.{fields_out}
 use Rattle.data_object_header.specs.declared.HeaderFields.{HeaderFields}
-use Rattle.data_object_header.specs.declared.FieldsRead.{FieldsRead}
-use Rattle.data_object_header.specs.declared.FieldsRead.TheVariants as fields
 use Rattle.data_object_header.specs.Headers.{ohdr, header_fields, HeaderReading, header, decode}
 
 module _ (file : List ℕ) (s : State) where
@@ -63,18 +60,18 @@ abbrev flagged : Format HeaderFields
 flagged = number 1 (λ flags. check (not (bit flags 4)) 6 (sized flags))
 
 -- a header's fields as the code reads them, and then its messages
-module _ (file : List ℕ) (s : State) (l : Limits) (at : ℕ) {r : FieldsRead} (f : fields_out r ≡ read file header_fields at) where
-  pub unread : {x : Refusal} → r ≡ fields.Refused x → header file s l at ≡ stopped (refusal_number x) 0
+module _ (file : List ℕ) (s : State) (l : Limits) (at : ℕ) {r : Result (HeaderFields × ℕ) Refusal} (f : out r ≡ read file header_fields at) where
+  pub unread : {x : Refusal} → r ≡ Err x → header file s l at ≡ stopped (refusal_number x) 0
   unfolding header
-  unread {x} e = refused_then _ _ (met fields_out f e)
+  unread {x} e = refused_then _ _ (met out f e)
 
-  module _ {v : HeaderFields} {from : ℕ} (e : r ≡ fields.Read v from) where
+  module _ {v : HeaderFields} {from : ℕ} (e : r ≡ Ok (v, from)) where
     pub walked : header file s l at ≡ walk (source file s v.flags) l at (from + v.size) from
     unfolding header
-    walked = found_then _ _ (met fields_out f e)
+    walked = found_then _ _ (met out f e)
 
     stands : Stands file header_fields at from v
-    stands = formats.sound file header_fields at from v (met fields_out f e)
+    stands = formats.sound file header_fields at from v (met out f e)
 
     pub starts_inside : from ≤ length file
     unfolding header_fields ohdr
@@ -99,15 +96,15 @@ module _ (file : List ℕ) (s : State) (l : Limits) (at : ℕ) {r : FieldsRead} 
 module _ (offsets lengths end : ℕ) where
   -- the definition by the tests that come first
   module _ (file : List ℕ) (at : ℕ) (l : Limits) where
-    pub no_width : {x : Refusal} → state_of offsets lengths end ≡ states.Refused x → decode file offsets lengths end at l ≡ stopped (refusal_number x) 0
+    pub no_width : {x : Refusal} → state_of offsets lengths end ≡ Err x → decode file offsets lengths end at l ≡ stopped (refusal_number x) 0
     unfolding decode
     no_width e = let u = unmade offsets lengths end e in choose_no _ _ u.0 ∙ ap (λ (k : ℕ). stopped k 0) (sym u.1)
 
-    pub too_large : {s : State} → state_of offsets lengths end ≡ states.Made s → file_limit < length file → decode file offsets lengths end at l ≡ stopped 2 0
+    pub too_large : {s : State} → state_of offsets lengths end ≡ Ok s → file_limit < length file → decode file offsets lengths end at l ≡ stopped 2 0
     unfolding decode
     too_large e h = choose_yes _ _ (made offsets lengths end e).0 ∙ choose_no _ _ (lt-leb _ _ h)
 
-    pub goes_on : {s : State} → state_of offsets lengths end ≡ states.Made s → length file ≤ file_limit → decode file offsets lengths end at l ≡ header file s l at
+    pub goes_on : {s : State} → state_of offsets lengths end ≡ Ok s → length file ≤ file_limit → decode file offsets lengths end at l ≡ header file s l at
     unfolding decode
     goes_on e h = choose_yes _ _ (made offsets lengths end e).0 ∙ choose_yes _ _ (le-leb _ _ h) ∙ ap (λ (x : State). header file x l at) (sym (made offsets lengths end e).1)
 

@@ -1,4 +1,3 @@
-pub mod Answers
 pub mod Headers
 pub mod Facts
 pub mod HeaderLaws

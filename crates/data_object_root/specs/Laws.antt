@@ -1,13 +1,14 @@
 -- What is handed over of a file's root, and what checking it yields, is what the same gives by hand with the superblock's values, and there is one
 -- table, one list of words and one answer of a check, since decoding and checking have one answer. What is refused has a true dataspace too.
 -- Assumes nothing.
-use Rattle.std.specs.Prelude.{ℕ, ◌≡◌, refl, List}
+use Rattle.std.specs.Prelude.{ℕ, ◌≡◌, refl, List, Result}
 use Rattle.std.proofs.Common.{sym, ◌∙◌}
 use Rattle.format.specs.Format.{Out, found, refused}
 use Rattle.records.specs.Elements.{product}
+use Rattle.records.specs.declared.Refusal.{Refusal}
 use Rattle.super_block.specs.declared.SuperBlock.{SuperBlock}
 use Rattle.super_block.specs.SuperBlocks.{super_block_of}
-use Rattle.data_object_check.specs.declared.CheckAnswer.{CheckAnswer}
+use Rattle.data_object_check.specs.declared.HeaderFigures.{HeaderFigures}
 use Rattle.data_object_check.specs.Checked.{Checked}
 use Rattle.data_object_check.specs.CheckedLaws.{check_answer_unique, checked_unique}
 use Rattle.data_object_words.specs.Handed.{Handed, TrueWords}
@@ -27,7 +28,7 @@ module _ (file : List ℕ) (n : ℕ) (t u v w : List ℕ) where
       → Handed file b.size_of_offsets b.size_of_lengths b.end_of_file_address b.root_group_object_header_address n u w → (t ≡ u) × (v ≡ w)
   root_by_hand b q e h g = by_block (found b q) (rw e at h) g
 
-module _ (file : List ℕ) (x y : CheckAnswer) where
+module _ (file : List ℕ) (x y : Result HeaderFigures Refusal) where
   checked_by : (o : Out SuperBlock) → CheckedBy file x o → CheckedBy file y o → x ≡ y
   checked_by (found b q) c d = checked_unique file b.size_of_offsets b.size_of_lengths b.end_of_file_address b.root_group_object_header_address x y c d
   checked_by (refused r) c d = check_answer_unique x y (c ∙ sym d)

@@ -8,11 +8,11 @@ ghost use Rattle.records.specs.Refusals.{refusal_number};
 ghost use Rattle.data_object_words.specs.Handed.{TrueWords};
 ghost use Rattle.data_object_root.specs.Root.{refused_words, HandedRoot, CheckedRoot};
 
-use data_object_check::{CheckAnswer, check_data_object};
+use data_object_check::{HeaderFigures, check_data_object};
 use data_object_words::header_words;
 use records::Refusal;
 use row::clear_behind;
-use super_block::{SuperBlockRead, super_block};
+use super_block::super_block;
 
 // The words of a file that is refused: the refusal's number, and the default records, of which the
 // dataspace has one element.
@@ -33,11 +33,11 @@ pub fn root_words(file: &[u8], table: &mut [u64], words: &mut [u64; 65])
     ensures are_bytes { AreBytes file.now }
 {
     match super_block(file) {
-        SuperBlockRead::Refused(refusal) => {
+        Err(refusal) => {
             clear_behind(table, 0);
             put_refusal(words, refusal);
         }
-        SuperBlockRead::Read(block, _) => header_words(
+        Ok((block, _)) => header_words(
             file,
             block.root_group_object_header_address,
             block.size_of_offsets as u64,
@@ -50,16 +50,12 @@ pub fn root_words(file: &[u8], table: &mut [u64], words: &mut [u64; 65])
 }
 
 // The root's object header, checked without a table.
-pub fn check_root(file: &[u8]) -> CheckAnswer
+pub fn check_root(file: &[u8]) -> Result<HeaderFigures, Refusal>
     ensures { CheckedRoot file.now result }
 {
-    match super_block(file) {
-        SuperBlockRead::Refused(refusal) => CheckAnswer::Refused(refusal),
-        SuperBlockRead::Read(block, _) => {
-            let root = block.root_group_object_header_address;
-            let offsets = block.size_of_offsets as u64;
-            let lengths = block.size_of_lengths as u64;
-            check_data_object(file, root, offsets, lengths, block.end_of_file_address)
-        }
-    }
+    let (block, _) = super_block(file)?;
+    let root = block.root_group_object_header_address;
+    let offsets = block.size_of_offsets as u64;
+    let lengths = block.size_of_lengths as u64;
+    check_data_object(file, root, offsets, lengths, block.end_of_file_address)
 }

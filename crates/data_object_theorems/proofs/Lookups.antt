@@ -1,11 +1,11 @@
 -- A lookup in the table of a decoded header finds the first attribute of its reading that bears the name, since row i of the table is that of
 -- message i. Assumes nothing.
-use Rattle.std.specs.Prelude.{ℕ, zero, suc, ◌+◌, ◌-◌, ◌*◌, ◌/◌, ◌≤◌, ◌<◌, ◌≡◌, refl, List, [], ◌∷◌, ◌++◌, map, length, replicate}
+use Rattle.std.specs.Prelude.{ℕ, zero, suc, ◌+◌, ◌-◌, ◌*◌, ◌/◌, ◌≤◌, ◌<◌, ◌≡◌, refl, List, [], ◌∷◌, ◌++◌, map, length, replicate, Some, Option, None, Result, Ok, Err}
 use Rattle.std.proofs.Common.{sym, ap, ◌∙◌, append_assoc, arith, length-append}
 use Rattle.std.proofs.lemmas.List.{length-replicate}
 use Rattle.records.specs.declared.Part.{Part}
-use Rattle.records.specs.declared.OptionPart.TheVariants as parts
 use Rattle.records.specs.declared.Attribute.{Attribute}
+use Rattle.records.specs.declared.Refusal.{Refusal}
 use Rattle.row.specs.declared.Row.{Row}
 use Rattle.row.specs.Rows.{row_words, encode, row_at}
 use Rattle.row.specs.RowLaws.{row_written, length-encode}
@@ -16,8 +16,6 @@ use Rattle.grammar.specs.TableLaws.{length-rows_of}
 use Rattle.data_object.specs.declared.DataObject.{DataObject}
 use Rattle.data_object.specs.Decoded.{Accepted}
 use Rattle.lookup.specs.Lookup.{Bears, Looked}
-use Rattle.lookup.specs.declared.LookupAnswer.{LookupAnswer}
-use Rattle.lookup.specs.declared.LookupAnswer.TheVariants as answers
 use Rattle.lookup_names.specs.Names.{row_plus_one, LookedAs}
 use Rattle.data_object_theorems.specs.Lookups.{MessageAt, BearsName, FirstBearing}
 
@@ -42,7 +40,7 @@ some_message (x ∷ xs) zero h = (x, refl)
 some_message (x ∷ xs) (suc i) h = some_message xs i (omega arith)
 
 -- what is kept under a name is an attribute, and the name is its
-named : (k : Kept) (p : Part) → name_of k ≡ parts.Some p → (a : Attribute) × (k ≡ messages.attribute a) × (a.name ≡ p)
+named : (k : Kept) (p : Part) → name_of k ≡ Some p → (a : Attribute) × (k ≡ messages.attribute a) × (a.name ≡ p)
 named messages.nothing p e = let z : ◌≡◌ {A = ℕ} 0 1 = cc in absurd (omega arith)
 named (messages.data_space x) p e = let z : ◌≡◌ {A = ℕ} 0 1 = cc in absurd (omega arith)
 named (messages.link_info x) p e = let z : ◌≡◌ {A = ℕ} 0 1 = cc in absurd (omega arith)
@@ -68,7 +66,7 @@ module _ (file : List ℕ) (offsets lengths end at n : ℕ) {next count : ℕ} {
   row_of_lem : (i : ℕ) (m : Message) → MessageAt (messages_of a.items) i m → row_at t i ≡ row_of m
   row_of_lem i m h = ap (λ (x : List ℕ). row_at x i) a.table ∙ row_is (messages_of a.items) (replicate (n - length (rows_of a.items) * row_words) 0) i m h
 
-  pub lookup_first : (i : ℕ) → Looked file t r.rows name (answers.At i) → FirstBearing file name (messages_of a.items) i
+  pub lookup_first : (i : ℕ) → Looked file t r.rows name (Ok (Some i)) → FirstBearing file name (messages_of a.items) i
   lookup_first i l =
       let s = some_message (messages_of a.items) i (omega (arith, l.1, a.rows)) in
       record {
@@ -78,7 +76,7 @@ module _ (file : List ℕ) (offsets lengths end at n : ℕ) {next count : ℕ} {
         before = λ j m h e b. l.3 j h (rw (row_of_lem j m e) (bears_row file name m b));
       }
 
-  pub lookup_nothing : Looked file t r.rows name answers.Nothing → (i : ℕ) (m : Message) → MessageAt (messages_of a.items) i m → BearsName file name m → ⊥
+  pub lookup_nothing : Looked file t r.rows name (Ok None) → (i : ℕ) (m : Message) → MessageAt (messages_of a.items) i m → BearsName file name m → ⊥
   lookup_nothing l i m e b = l.1 i (omega (arith, a.rows, index (messages_of a.items) i m e)) (rw (row_of_lem i m e) (bears_row file name m b))
     where
       index : (xs : List Message) (i : ℕ) (m : Message) → MessageAt xs i m → i < length xs
@@ -90,10 +88,10 @@ module _ (file : List ℕ) (offsets lengths end at n : ℕ) {next count : ℕ} {
   pub name_first : (i : ℕ) → LookedAs file t r.rows name (i + 1) → FirstBearing file name (messages_of a.items) i
   name_first i w = go w.answer w.looked w.same
     where
-      go : (x : LookupAnswer) → Looked file t r.rows name x → i + 1 ≡ row_plus_one x → FirstBearing file name (messages_of a.items) i
-      go (answers.At j) l e = let d : i ≡ j = omega arith in rw d (lookup_first j l)
-      go answers.Nothing l e = absurd (omega arith)
-      go (answers.Refused q) l e = absurd (omega arith)
+      go : (x : Result (Option ℕ) Refusal) → Looked file t r.rows name x → i + 1 ≡ row_plus_one x → FirstBearing file name (messages_of a.items) i
+      go (Ok (Some j)) l e = let d : i ≡ j = omega arith in rw d (lookup_first j l)
+      go (Ok None) l e = absurd (omega arith)
+      go (Err q) l e = absurd (omega arith)
 
   -- the rows that are filled are in the table
   rows_inside : r.rows ≤ length t / row_words
@@ -105,7 +103,7 @@ module _ (file : List ℕ) (offsets lengths end at n : ℕ) {next count : ℕ} {
   pub name_nothing : LookedAs file t r.rows name 0 → (i : ℕ) (m : Message) → MessageAt (messages_of a.items) i m → BearsName file name m → ⊥
   name_nothing w = go w.answer w.looked w.same
     where
-      go : (x : LookupAnswer) → Looked file t r.rows name x → 0 ≡ row_plus_one x → (i : ℕ) (m : Message) → MessageAt (messages_of a.items) i m → BearsName file name m → ⊥
-      go (answers.At j) l e = absurd (omega arith)
-      go answers.Nothing l e = lookup_nothing l
-      go (answers.Refused q) l e = absurd (omega (arith, l.1, rows_inside))
+      go : (x : Result (Option ℕ) Refusal) → Looked file t r.rows name x → 0 ≡ row_plus_one x → (i : ℕ) (m : Message) → MessageAt (messages_of a.items) i m → BearsName file name m → ⊥
+      go (Ok (Some j)) l e = absurd (omega arith)
+      go (Ok None) l e = lookup_nothing l
+      go (Err q) l e = absurd (omega (arith, l.1, rows_inside))

@@ -1,12 +1,13 @@
 -- A check is never refused as 24: no format has that number, and without a table every message has its row. Nor is the check of a file's root.
 -- Assumes nothing.
-use Rattle.std.specs.Prelude.{ℕ, ◌≡◌, refl, Bool, false, ◌&&◌, List, length, leb}
+use Rattle.std.specs.Prelude.{ℕ, ◌≡◌, refl, Bool, false, ◌&&◌, List, length, leb, Result, Err}
 use Rattle.std.proofs.Common.{ap, ◌∙◌}
 use Rattle.std.proofs.Math.Bool.{true}
 use Rattle.format.specs.Format.{Out, found, refused}
 use Rattle.format.specs.Refusals.{RefusedWith}
 use Rattle.format.specs.RefusalLaws.{refused_otherwise}
 use Rattle.records.specs.declared.Refusal.TheVariants as refusals
+use Rattle.records.specs.declared.Refusal.{Refusal}
 use Rattle.parser.specs.States.{file_limit, width_allowed, state_for}
 use Rattle.super_block.specs.declared.SuperBlock.{SuperBlock}
 use Rattle.super_block.specs.SuperBlocks.{super_block_of}
@@ -14,8 +15,7 @@ use Rattle.super_block.specs.RefusalLaws.{refusal_not_24}
 use Rattle.grammar.specs.Grammar.{Item}
 use Rattle.grammar.specs.Walk.{choose, Went, reached, stopped, without_table}
 use Rattle.data_object_header.specs.Headers.{header, decode}
-use Rattle.data_object_check.specs.declared.CheckAnswer.{CheckAnswer}
-use Rattle.data_object_check.specs.declared.CheckAnswer.TheVariants as checks
+use Rattle.data_object_check.specs.declared.HeaderFigures.{HeaderFigures}
 use Rattle.data_object_check.specs.Checked.{check_out, figures, checked, Checked}
 use Rattle.data_object_root.specs.Root.{CheckedBy, CheckedRoot}
 use Rattle.data_object_theorems.specs.Refusals.{of_header, of_check}
@@ -36,16 +36,16 @@ module _ (file : List ℕ) (offsets lengths end at : ℕ) where
       go false u w h = refl
 
   -- every number that a check is refused with, whatever it is given
-  pub check_refused_with : (a : CheckAnswer) → Checked file offsets lengths end at a → RefusedWith of_check (check_out a)
+  pub check_refused_with : (a : Result HeaderFigures Refusal) → Checked file offsets lengths end at a → RefusedWith of_check (check_out a)
   check_refused_with a c = rw c.answer checked_as
 
-  pub check_not_24 : Checked file offsets lengths end at (checks.Refused refusals.Table) → ⊥
-  check_not_24 c = refused_otherwise of_check 24 (check_out (checks.Refused refusals.Table)) refl (check_refused_with (checks.Refused refusals.Table) c) refl
+  pub check_not_24 : Checked file offsets lengths end at (Err refusals.Table) → ⊥
+  check_not_24 c = refused_otherwise of_check 24 (check_out (Err refusals.Table)) refl (check_refused_with (Err refusals.Table) c) refl
 
 -- nor is that of a file's root
-pub check_root_not_24 : (file : List ℕ) → CheckedRoot file (checks.Refused refusals.Table) → ⊥
+pub check_root_not_24 : (file : List ℕ) → CheckedRoot file (Err refusals.Table) → ⊥
 check_root_not_24 file c = go (super_block_of file) refl c
   where
-    go : (o : Out SuperBlock) → super_block_of file ≡ o → CheckedBy file (checks.Refused refusals.Table) o → ⊥
+    go : (o : Out SuperBlock) → super_block_of file ≡ o → CheckedBy file (Err refusals.Table) o → ⊥
     go (found b q) e c = check_not_24 file b.size_of_offsets b.size_of_lengths b.end_of_file_address b.root_group_object_header_address c
     go (refused r) e c = let z : r ≡ 24 = cc in refusal_not_24 file (e ∙ ap refused z)

@@ -1,14 +1,13 @@
 -- Checking a file's root and filling a table with it, for every file and table: as of a header at a position (Joint), in the words that are handed
 -- over. Assumes nothing: these are definitions.
-use Rattle.std.specs.Prelude.{ℕ, ◌/◌, ◌≤◌, ◌≡◌, List}
+use Rattle.std.specs.Prelude.{ℕ, ◌/◌, ◌≤◌, ◌≡◌, List, Result, Ok, Err}
 use Rattle.format.specs.Format.{Out}
 use Rattle.records.specs.declared.Refusal.{Refusal}
 use Rattle.row.specs.Rows.{row_words}
 use Rattle.super_block.specs.declared.SuperBlock.{SuperBlock}
 use Rattle.super_block.specs.SuperBlocks.{super_block_of}
 use Rattle.grammar.specs.Walk.{entry_limit}
-use Rattle.data_object_check.specs.declared.CheckAnswer.{CheckAnswer}
-use Rattle.data_object_check.specs.declared.CheckAnswer.TheVariants as checks
+use Rattle.data_object_check.specs.declared.HeaderFigures.{HeaderFigures}
 use Rattle.data_object.specs.declared.DataObject.{DataObject}
 use Rattle.data_object_words.specs.Words.{words_of}
 use Rattle.data_object_root.specs.Root.{HandedBy}
@@ -30,11 +29,11 @@ module _ (file : List ℕ) (o : Out SuperBlock) where
     pub filled : (n : ℕ) (t w : List ℕ) → HandedBy file n t w o → WordsWith (Fails x taken (n / row_words)) w
 
   -- by the check's answer
-  abbrev pub JointBy : CheckAnswer → Type 0
-  JointBy (checks.Passed f) = (n : ℕ) (t w : List ℕ) → HandedBy file n t w o → WordsWith (Fills f (n / row_words)) w
-  JointBy (checks.Refused x) = RefusesBy x
+  abbrev pub JointBy : Result HeaderFigures Refusal → Type 0
+  JointBy (Ok f) = (n : ℕ) (t w : List ℕ) → HandedBy file n t w o → WordsWith (Fills f (n / row_words)) w
+  JointBy (Err x) = RefusesBy x
 
 module _ (file : List ℕ) where
   -- with the file's own superblock, where `HandedBy` is `HandedRoot`
-  abbrev pub JointRoot : CheckAnswer → Type 0
+  abbrev pub JointRoot : Result HeaderFigures Refusal → Type 0
   JointRoot = JointBy file (super_block_of file)

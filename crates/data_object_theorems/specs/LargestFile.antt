@@ -1,6 +1,6 @@
 -- The largest file, with its number, for every file: above 2,147,483,648 bytes a check, the call and a superblock are 2, and up to there none is; a
 -- width that is not 2 to 8 is 1 whatever the length. Assumes nothing.
-use Rattle.std.specs.Prelude.{ℕ, ◌/◌, ◌≤◌, ◌<◌, ◌≡◌, Bool, List, length, leb, ltb}
+use Rattle.std.specs.Prelude.{ℕ, ◌/◌, ◌≤◌, ◌<◌, ◌≡◌, Bool, List, length, leb, ltb, Result}
 use Rattle.std.proofs.Math.Path.{refl}
 use Rattle.std.proofs.Common.{ap, ◌∙◌, arith}
 use Rattle.std.proofs.Math.Bool.{true, false}
@@ -11,6 +11,7 @@ use Rattle.format.specs.RefusalLaws.{refused_otherwise}
 use Rattle.super_block.specs.Refusals.{of_block}
 use Rattle.super_block.specs.RefusalLaws.{summed_as}
 use Rattle.format.specs.Format.{refused}
+use Rattle.records.specs.declared.Refusal.{Refusal}
 use Rattle.parser.specs.States.{file_limit, width_allowed, state_for}
 use Rattle.super_block.specs.SuperBlocks.{super_block_of}
 use Rattle.row.specs.Rows.{row_words}
@@ -18,7 +19,7 @@ use Rattle.grammar.specs.Grammar.{Item}
 use Rattle.grammar.specs.Walk.{Went, reached, stopped, Limits, lent, without_table}
 use Rattle.data_object_header.specs.Headers.{header, decode}
 use Rattle.data_object_header.specs.Passing.{decode_beside}
-use Rattle.data_object_check.specs.declared.CheckAnswer.{CheckAnswer}
+use Rattle.data_object_check.specs.declared.HeaderFigures.{HeaderFigures}
 use Rattle.data_object_check.specs.Checked.{check_out, figures, Checked}
 use Rattle.data_object.specs.declared.DataObject.{DataObject}
 use Rattle.data_object.specs.Decoded.{answer_out, counts, Decoded}
@@ -54,7 +55,7 @@ module _ (file : List ℕ) (offsets lengths end at : ℕ) where
   checks_as w h = rw (within without_table w h) (header_as file (state_for offsets lengths end) at)
 
   -- the check
-  module _ (a : CheckAnswer) (c : Checked file offsets lengths end at a) where
+  module _ (a : Result HeaderFigures Refusal) (c : Checked file offsets lengths end at a) where
     pub check_of_a_bad_width : (BothAllowed offsets lengths → ⊥) → check_out a ≡ refused 1
     check_of_a_bad_width f = c.answer ∙ ap figures (bad without_table f)
 

@@ -1,6 +1,6 @@
 -- One pass over the rows finds where the last message of each type has its body. Assumes nothing.
 use Prim.Native.Nat.{ℕ, zero, suc, ◌/◌, ◌≤◌, ◌<◌}
-use Rattle.std.specs.Prelude.{◌≡◌, Bool, List, get_or, set, replicate}
+use Rattle.std.specs.Prelude.{◌≡◌, Bool, List, get_or, set, replicate, Some}
 use Rattle.std.proofs.Math.Path.{refl}
 use Rattle.std.proofs.Common.{sym, arith, get_or-set_other}
 use Rattle.std.proofs.Math.Bool.{true, false}
@@ -12,7 +12,6 @@ use borrow.Author.Tests.{eqb-true, eqb-false, eq-eqb, ne_eqb, ltb-false}
 use Rattle.row.specs.Rows.{row_words, row_at}
 use Rattle.format.specs.Format.{pick}
 use Rattle.data_object_winners.specs.Winners.{last_in, last_rows, body_of}
-use Rattle.data_object_winners.specs.declared.LastBody.TheVariants as bodies
 
 module _ (t : List ℕ) where
   -- the rows of all types below 22, none of them yet
@@ -52,7 +51,7 @@ module _ (t : List ℕ) where
   unfolding last_rows last_in
   last_found type zero h = rw (get_or-replicate {A = ℕ} 22 type 0 0 h)
   last_found type (suc n) h =
-      one (λ k. body_of t k ≡ pick (eqb (row_at t n).kind type) (bodies.At (row_at t n).body) (last_in t type n)) type n h
+      one (λ k. body_of t k ≡ pick (eqb (row_at t n).kind type) (Some (row_at t n).body) (last_in t type n)) type n h
       (λ e. rw (eq-eqb _ _ e)) (λ e. rw (ne_eqb _ _ e) (last_found type n h))
 
   -- the same of the list that a pass leaves

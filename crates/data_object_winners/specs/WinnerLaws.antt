@@ -1,6 +1,6 @@
 -- The records that are read at the bodies of the last rows are those that win, since a row's body is its message's, and what a message keeps
 -- stands in its body. Assumes nothing.
-use Rattle.std.specs.Prelude.{ℕ, zero, suc, ◌≡◌, Bool, true, false, ◌⊎◌, List, [], ◌∷◌, ◌++◌, map, length, eqb}
+use Rattle.std.specs.Prelude.{ℕ, zero, suc, ◌≡◌, Bool, true, false, ◌⊎◌, List, [], ◌∷◌, ◌++◌, map, length, eqb, Option, Some, None}
 use Rattle.std.proofs.Math.Path.{refl}
 use Rattle.std.proofs.Common.{sym, ap, ◌∙◌, inr, eqb-true}
 use Rattle.std.proofs.Math.Logic.{inl}
@@ -32,27 +32,25 @@ use Rattle.ohdr_entry.specs.Entries.{body, plain_body, layout_body, attribute_bo
 use Rattle.ohdr_entry.specs.Entered.{Bodied, bodied}
 use Rattle.data_object_winners.specs.Wins.{Wins, win, wins_after, wins_of, defaults}
 use Rattle.data_object_winners.specs.Winners.{last_in, value_or, winner}
-use Rattle.data_object_winners.specs.declared.LastBody.{LastBody}
-use Rattle.data_object_winners.specs.declared.LastBody.TheVariants as bodies
 
 -- where the last row of a type has its body, among rows; before any it is as l says
-abbrev last_of : ℕ → LastBody → List Row → LastBody
+abbrev last_of : ℕ → Option ℕ → List Row → Option ℕ
 last_of type l [] = l
-last_of type l (r ∷ rs) = last_of type (pick (eqb r.kind type) (bodies.At r.body) l) rs
+last_of type l (r ∷ rs) = last_of type (pick (eqb r.kind type) (Some r.body) l) rs
 
-last_snoc : (type : ℕ) (l : LastBody) (rs : List Row) (r : Row) → last_of type l (rs ++ (r ∷ [])) ≡ pick (eqb r.kind type) (bodies.At r.body) (last_of type l rs)
+last_snoc : (type : ℕ) (l : Option ℕ) (rs : List Row) (r : Row) → last_of type l (rs ++ (r ∷ [])) ≡ pick (eqb r.kind type) (Some r.body) (last_of type l rs)
 last_snoc type l [] r = refl
-last_snoc type l (q ∷ rs) r = last_snoc type (pick (eqb q.kind type) (bodies.At q.body) l) rs r
+last_snoc type l (q ∷ rs) r = last_snoc type (pick (eqb q.kind type) (Some q.body) l) rs r
 
-table_rows : (type : ℕ) (t : List ℕ) (n : ℕ) → last_in t type n ≡ last_of type bodies.Nothing (first_rows t n)
+table_rows : (type : ℕ) (t : List ℕ) (n : ℕ) → last_in t type n ≡ last_of type None (first_rows t n)
 unfolding last_in
 table_rows type t zero = refl
 table_rows type t (suc n) =
-    ap (pick (eqb (row_at t n).kind type) (bodies.At (row_at t n).body)) (table_rows type t n) ∙ sym (last_snoc type bodies.Nothing (first_rows t n) (row_at t n))
+    ap (pick (eqb (row_at t n).kind type) (Some (row_at t n).body)) (table_rows type t n) ∙ sym (last_snoc type None (first_rows t n) (row_at t n))
 
 -- in a table that holds rows, whatever follows them
-table_last : (type : ℕ) (rs : List Row) (rest : List ℕ) → last_in (encode rs ++ rest) type (length rs) ≡ last_of type bodies.Nothing rs
-table_last type rs rest = table_rows type (encode rs ++ rest) (length rs) ∙ ap (last_of type bodies.Nothing) (written_read rs rest)
+table_last : (type : ℕ) (rs : List Row) (rest : List ℕ) → last_in (encode rs ++ rest) type (length rs) ≡ last_of type None rs
+table_last type rs rest = table_rows type (encode rs ++ rest) (length rs) ∙ ap (last_of type None) (written_read rs rest)
 
 -- the type of the messages of which a record is kept; 0 where none is
 abbrev pub type_of : Kept → ℕ
@@ -115,11 +113,11 @@ module _ (file : List ℕ) (s : State) where
     pub apart : (k : Kept) → (type_of k ≡ type → ⊥) → (w : Wins) → f (win k w) ≡ f w
     pub some : type ≡ 0 → ⊥
 
-  won_after : {A : Type 0} {type : ℕ} {F : Format A} {a₀ : A} {f : Wins → A} → Won type F a₀ f → (ms : List Message) → All (Bodied file s) ms → (l : LastBody) (w : Wins)
+  won_after : {A : Type 0} {type : ℕ} {F : Format A} {a₀ : A} {f : Wins → A} → Won type F a₀ f → (ms : List Message) → All (Bodied file s) ms → (l : Option ℕ) (w : Wins)
       → winner file F a₀ l ≡ f w → winner file F a₀ (last_of type l (map row_of ms)) ≡ f (wins_after w ms)
   won_after v [] b l w e = e
   won_after {type = type} {F = F} {a₀ = a₀} {f = f} v (m ∷ ms) b l w e =
-      won_after v ms b.1 (pick (eqb m.type type) (bodies.At m.body) l) (win m.kept w) (go (eqb m.type type) refl)
+      won_after v ms b.1 (pick (eqb m.type type) (Some m.body) l) (win m.kept w) (go (eqb m.type type) refl)
     where
       other : (m.type ≡ type → ⊥) → type_of m.kept ≡ type → ⊥
       other n d = pass (typed m.type m.body b.0.upto m.kept b.0.stands)
@@ -128,7 +126,7 @@ module _ (file : List ℕ) (s : State) where
           pass (inl z) = v.some (sym d ∙ z)
           pass (inr y) = n (sym y ∙ d)
 
-      go : (t : Bool) → eqb m.type type ≡ t → winner file F a₀ (pick t (bodies.At m.body) l) ≡ f (win m.kept w)
+      go : (t : Bool) → eqb m.type type ≡ t → winner file F a₀ (pick t (Some m.body) l) ≡ f (win m.kept w)
       go true d = v.here m b.0 (eqb-true m.type type d) w
       go false d = e ∙ sym (v.apart m.kept (other (eqb-false m.type type d)) w)
 
@@ -137,7 +135,7 @@ module _ (file : List ℕ) (s : State) where
       → winner file F a₀ (last_in (encode (map row_of ms) ++ rest) type (length ms)) ≡ f (wins_of ms)
   won {type = type} {F = F} {a₀ = a₀} v e ms b rest =
       ap (λ (n : ℕ). winner file F a₀ (last_in (encode (map row_of ms) ++ rest) type n)) (sym (length-map ms row_of))
-      ∙ ap (winner file F a₀) (table_last type (map row_of ms) rest) ∙ won_after v ms b bodies.Nothing defaults (sym e)
+      ∙ ap (winner file F a₀) (table_last type (map row_of ms) rest) ∙ won_after v ms b None defaults (sym e)
 
   -- each message of a reading keeps what stands in its body
   pub all_bodied : {at next : ℕ} {xs : List Item} → HeaderReading file s at next xs → All (Bodied file s) (messages_of xs)

@@ -1,9 +1,7 @@
 -- What is handed over of a header: its words, and its messages in a table. Assumes nothing: these are definitions.
-use Rattle.std.specs.Prelude.{ℕ, ◌≡◌, List, [], ◌∷◌, get_or, eqb}
+use Rattle.std.specs.Prelude.{ℕ, ◌≡◌, List, [], ◌∷◌, get_or, eqb, Option, Some, None}
 use Rattle.format.specs.Format.{pick}
 use Rattle.records.specs.Elements.{elements_by, count_of}
-use Rattle.records.specs.declared.OptionU8.{OptionU8}
-use Rattle.records.specs.declared.OptionU8.TheVariants as options8
 use Rattle.records.specs.declared.Dimensions.{Dimensions}
 use Rattle.data_object.specs.declared.DataObject.{DataObject}
 use Rattle.data_object.specs.Decoded.{Decoded}
@@ -17,8 +15,8 @@ pub record Handed (file : List ℕ) (offsets lengths end at n : ℕ) (t w : List
   pub words : w ≡ words_of object
 
 -- the kind and the sizes that the words w of an object tell
-abbrev pub kind_in : List ℕ → OptionU8
-kind_in w = pick (eqb (get_or w 6 0) 1) (options8.Some (get_or w 7 0)) options8.None
+abbrev pub kind_in : List ℕ → Option ℕ
+kind_in w = pick (eqb (get_or w 6 0) 1) (Some (get_or w 7 0)) None
 
 abbrev pub sizes_in : List ℕ → Dimensions
 sizes_in w = record { count = get_or w 8 0; sizes = get_or w 9 0 ∷ get_or w 10 0 ∷ get_or w 11 0 ∷ get_or w 12 0 ∷ [] }

@@ -1,25 +1,23 @@
 -- Words that are put piece after piece, each at its place, are the words of the whole. Assumes nothing.
-use Rattle.std.specs.Prelude.{ℕ, ◌+◌, ◌≡◌, refl, List, ◌∷◌, ◌++◌, length, get_or, set}
+use Rattle.std.specs.Prelude.{ℕ, ◌+◌, ◌≡◌, refl, List, ◌∷◌, ◌++◌, length, get_or, set, Option, Some, None, Result, Ok, Err}
 use Rattle.std.proofs.Common.{ap, ◌∙◌, append-nil, arith, length-append, drop_of_length-le}
 use Rattle.std.proofs.lemmas.List.Edits.{sets, sets-eq}
 use Rattle.records.specs.declared.DataFormat.TheVariants as formats
-use Rattle.records.specs.declared.OptionDataFormat.{OptionDataFormat}
-use Rattle.records.specs.declared.OptionDataFormat.TheVariants as option_formats
+use Rattle.records.specs.declared.Refusal.{Refusal}
 use Rattle.row.specs.RowLaws.{sets-append}
-use Rattle.data_object.specs.declared.Answer.{Answer}
-use Rattle.data_object.specs.declared.Answer.TheVariants as answers
 use Rattle.data_object.specs.declared.DataObject.{DataObject}
 use Rattle.record_words.specs.Words.{data_space_words, format_words, data_type_words, link_info_words, group_info_words, attribute_info_words, data_layout_words}
 use Rattle.data_object_words.specs.Words.{answer_words, words_of}
+use Rattle.records.specs.declared.DataFormat.{DataFormat}
 
-length-answer : (a : Answer) → length (answer_words a) ≡ 3
-length-answer (answers.Read next entries) = refl
-length-answer (answers.Refused r) = refl
+length-answer : (a : Result (ℕ × ℕ) Refusal) → length (answer_words a) ≡ 3
+length-answer (Ok (next, entries)) = refl
+length-answer (Err r) = refl
 
-length-format : (f : OptionDataFormat) → length (format_words f) ≡ 8
-length-format option_formats.None = refl
-length-format (option_formats.Some (formats.Fixed a b)) = refl
-length-format (option_formats.Some (formats.Float a b c d e f g)) = refl
+length-format : (f : Option DataFormat) → length (format_words f) ≡ 8
+length-format None = refl
+length-format (Some (formats.Fixed a b)) = refl
+length-format (Some (formats.Float f)) = refl
 
 pub length-words : (o : DataObject) → length (words_of o) ≡ 65
 length-words o = rw (length-append (answer_words o.answer), length-answer, length-append (format_words o.dt.data_fmt), length-format)
@@ -27,9 +25,9 @@ length-words o = rw (length-append (answer_words o.answer), length-answer, lengt
 pub rows_word : (o : DataObject) → get_or (words_of o) 3 0 ≡ o.rows
 rows_word o = fourth o.answer o.rows _
   where
-    fourth : (a : Answer) (n : ℕ) (ws : List ℕ) → get_or (answer_words a ++ (n ∷ ws)) 3 0 ≡ n
-    fourth (answers.Read next entries) n ws = refl
-    fourth (answers.Refused r) n ws = refl
+    fourth : (a : Result (ℕ × ℕ) Refusal) (n : ℕ) (ws : List ℕ) → get_or (answer_words a ++ (n ∷ ws)) 3 0 ≡ n
+    fourth (Ok (next, entries)) n ws = refl
+    fourth (Err r) n ws = refl
 
 module _ (o : DataObject) (t : List ℕ) where
   -- each piece at its place in t

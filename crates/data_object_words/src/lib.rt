@@ -7,26 +7,26 @@ ghost use Rattle.format.specs.Bytes.{AreBytes};
 ghost use Rattle.data_object_words.specs.Words.{answer_words, words_of};
 ghost use Rattle.data_object_words.specs.Handed.{Handed, TrueWords};
 
-use data_object::{Answer, DataObject, data_object};
+use data_object::{DataObject, data_object};
 use record_words::{
     put_attribute_info, put_data_layout, put_data_space, put_data_type, put_group_info,
     put_link_info,
 };
+use records::Refusal;
 
 // Takes the array as a slice, since only a slice tells its caller how long it is.
-fn put_answer(words: &mut [u64], answer: Answer)
+fn put_answer(words: &mut [u64], answer: Result<(usize, usize), Refusal>)
     requires { 3 ≤ length words.old }
     ensures { words.new ≡ sets words.old 0 (answer_words answer) }
 {
     match answer {
-        Answer::Read(next, entries) => {
+        Ok((next, entries)) => {
             words[0] = 0;
             words[1] = next as u64;
             words[2] = entries as u64;
         }
-        Answer::Refused(refusal) => {
-            let number = refusal.number();
-            words[0] = number;
+        Err(refusal) => {
+            words[0] = refusal.number();
             words[1] = 0;
             words[2] = 0;
         }
@@ -37,8 +37,7 @@ fn put_answer(words: &mut [u64], answer: Answer)
 fn put_words(object: DataObject, words: &mut [u64; 65])
     ensures { words.new ≡ words_of object }
 {
-    let answer = object.answer;
-    put_answer(words, answer);
+    put_answer(words, object.answer);
     words[3] = object.rows as u64;
     put_data_space(words, object.ds);
     put_data_type(words, object.dt);

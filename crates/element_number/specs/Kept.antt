@@ -1,7 +1,7 @@
 -- A number keeps the bits that the file has: which number stands in an element, its case and its bits, by the bytes alone. Assumes nothing.
 use Rattle.std.specs.Prelude.{ℕ, suc, ◌+◌, ◌-◌, ◌*◌, ◌^◌, ◌≤◌, ◌<◌, ◌≡◌, refl, Bool, true, false, not, List, length, T, ltb, pos, negsuc, Float}
 use Rattle.std.proofs.Math.Path.{sym, ap}
-use Rattle.std.proofs.Common.{◌∙◌, subst, arith, pow-add, pow_mono}
+use Rattle.std.proofs.Common.{◌∙◌, subst, arith, pow_mono}
 use Rattle.std.specs.Float.Ieee as Ieee
 use Rattle.std.specs.Float.{nan, inf, fin, binary32, binary64}
 use Rattle.std.specs.Float.Ieee.{of_bits, to_bits, nan_bits, is_nan, top}
@@ -18,6 +18,7 @@ use Rattle.number_form.specs.declared.NumberForm.TheVariants as forms
 use Rattle.number_form.specs.Forms.{big_endian, whole_size, Sized}
 use Rattle.element_number.specs.Values.{element, signed_of, single_of, double_of, number_of, number_value}
 use Rattle.number_form.specs.Sizes.{small_size, some_size}
+pub use Rattle.element_number.specs.Facts.{twice_half}
 
 -- the element of w bytes at p, as one number
 abbrev pub stored : List ℕ → ℕ → ℕ → ℕ → ℕ
@@ -36,13 +37,6 @@ form_bits forms.Unsigned size v = v
 form_bits forms.Signed size v = pick (ltb v (2 ^ (8 * size - 1))) v (v + (2 ^ 64 - 2 ^ (8 * size)))
 form_bits forms.Single size v = v
 form_bits forms.Double size v = v
-
--- half of the numbers of a size, and all
-pub twice_half : (w : ℕ) → 1 ≤ w → 2 * 2 ^ (8 * w - 1) ≡ 2 ^ (8 * w)
-twice_half w h =
-    let a : 8 * w ≡ 1 + (8 * w - 1) = omega arith in
-    let d : 2 ^ (8 * w) ≡ 2 ^ 1 * 2 ^ (8 * w - 1) = ap (λ (k : ℕ). 2 ^ k) a ∙ pow-add 2 1 (8 * w - 1) in
-    omega arith
 
 size_below : (w : ℕ) → w ≤ 8 → 2 ^ (8 * w) ≤ 2 ^ 64
 size_below w h = let m : 8 * w ≤ 64 = omega arith in pow_mono {i = 8 * w} {j = 64} m

@@ -3,69 +3,38 @@
 #![tactic(auto)]
 
 ghost use Rattle.std.specs.Prelude.{◌≡◌, true, ◌-◌, ◌*◌, ◌^◌, ◌<◌, ◌≤◌};
+ghost use Rattle.helpers.specs.Answers.{out};
 ghost use Rattle.std.specs.Float.Ieee.{to_bits};
 ghost use Rattle.std.specs.Float.{binary32, binary64};
 ghost use Rattle.format.specs.Bytes.{swap};
 ghost use Rattle.format.specs.Format.{read};
-ghost use Rattle.helpers.specs.Answers.{u64_out};
 ghost use Rattle.records.specs.Numbers.{twos, number_case, number_bits, value_case, value_bits};
 ghost use Rattle.number_form.specs.Forms.{whole_size, Sized};
 ghost use Rattle.element_number.specs.Values.{element as element_format, signed_of, single_of, double_of, number_of, number_value};
-ghost use Rattle.element_number.specs.Answers.{number_out, Below};
+ghost use Rattle.element_number.specs.Answers.{Below};
 
-use helpers::{ReadU64, varint};
+use helpers::{Parsed, varint};
 use number_form::NumberForm;
 use records::{Number, Value};
 
-#[derive(Drop)]
-pub enum NumberRead {
-    Read(Number, usize),
-    Short,
-}
-
-// The lowest bytes of a number in the other order.
-fn swap_2(v: u64) -> u64
-    ensures { (result ≡ swap 2 v) × (result < 65536) }
-{
-    v % 256 * 256 + v / 256 % 256
-}
-
-fn swap_4(v: u64) -> u64
-    ensures { (result ≡ swap 4 v) × (result < 4294967296) }
-{
-    swap_2(v) * 65536 + swap_2(v / 65536)
-}
-
-fn swap_8(v: u64) -> u64
-    ensures { result ≡ swap 8 v }
-{
-    swap_4(v) * 4294967296 + swap_4(v / 4294967296)
-}
-
+// The lowest `size` bytes of a number in the other order: of all its bytes, the highest ones.
 fn swap_of(v: u64, size: u32) -> u64
     requires { whole_size size ≡ true }
     ensures { result ≡ swap size v }
 {
-    match size {
-        1 => v % 256,
-        2 => swap_2(v),
-        4 => swap_4(v),
-        _ => swap_8(v),
-    }
+    v.swap_bytes() >> (64 - 8 * size)
 }
 
 // An element as one number, in the byte order of class bit 0.
-fn element(file: &[u8], at: usize, bits: u32, size: u32) -> ReadU64
+fn element(file: &[u8], at: usize, bits: u32, size: u32) -> Parsed<u64>
     requires { whole_size size ≡ true }
-    ensures { (u64_out result ≡ read file.now (element_format bits size) at) × Below result size }
+    ensures { (out result ≡ read file.now (element_format bits size) at) × Below result size }
 {
-    let ReadU64::Value(v, next) = varint(file, at, size as usize) else {
-        return ReadU64::Short;
-    };
+    let (v, next) = varint(file, at, size as usize)?;
     if bits & 1 == 0 {
-        return ReadU64::Value(v, next);
+        return Ok((v, next));
     }
-    ReadU64::Value(swap_of(v, size), next)
+    Ok((swap_of(v, size), next))
 }
 
 // Half as many numbers as the bytes can hold: from there on a signed one is below zero.
@@ -73,12 +42,7 @@ fn half_of(size: u32) -> u64
     requires { whole_size size ≡ true }
     ensures { (result ≡ 2 ^ (8 * size - 1)) × (2 * result ≡ 2 ^ (8 * size)) × (0 < result) × (result ≤ 2 ^ 63) }
 {
-    match size {
-        1 => 128,
-        2 => 32768,
-        4 => 2147483648,
-        _ => 9223372036854775808,
-    }
+    1 << (8 * size - 1)
 }
 
 fn signed_of(half: u64, v: u64) -> i64
@@ -92,11 +56,12 @@ fn signed_of(half: u64, v: u64) -> i64
     }
 }
 
-// A NaN is no float here, since it would lose its bits.
+// A NaN is no float here, since it would lose its bits. Single and double are two functions, here and
+// below, since no trait over both promises bits.
 fn single_of(bits: u32) -> Number
     ensures { result ≡ single_of bits }
 {
-    if 2139095040 < bits % 2147483648 {
+    if 0x7f80_0000 < bits % 0x8000_0000 {
         return Number::SingleNan(bits);
     }
     Number::Single(f32::from_bits(bits))
@@ -105,7 +70,7 @@ fn single_of(bits: u32) -> Number
 fn double_of(bits: u64) -> Number
     ensures { result ≡ double_of bits }
 {
-    if 9218868437227405312 < bits % 9223372036854775808 {
+    if 0x7ff0_0000_0000_0000 < bits % 0x8000_0000_0000_0000 {
         return Number::DoubleNan(bits);
     }
     Number::Double(f64::from_bits(bits))
@@ -125,40 +90,41 @@ fn number_of(form: NumberForm, size: u32, v: u64) -> Number
 }
 
 // The number in one element of this form.
-pub fn number_value(file: &[u8], at: usize, form: NumberForm, bits: u32, size: u32) -> NumberRead
+pub fn number_value(
+    file: &[u8],
+    at: usize,
+    form: NumberForm,
+    bits: u32,
+    size: u32,
+) -> Parsed<Number>
     requires { Sized form size }
-    ensures { number_out result ≡ read file.now (number_value form bits size) at }
+    ensures { out result ≡ read file.now (number_value form bits size) at }
 {
-    let ReadU64::Value(v, next) = element(file, at, bits, size) else {
-        return NumberRead::Short;
-    };
-    NumberRead::Read(number_of(form, size, v), next)
+    let (v, next) = element(file, at, bits, size)?;
+    Ok((number_of(form, size, v), next))
 }
 
 // The bits of a signed number, as two's complement.
 fn signed_bits(x: i64) -> u64
     ensures { result ≡ twos x }
 {
-    if x < 0 {
-        18446744073709551615 - ((-1 - x) as u64)
-    } else {
-        x as u64
-    }
+    x.cast_unsigned()
 }
 
+// The bits of a float; of the NaN they are those that IEEE 754 prefers.
 fn single_bits(x: f32) -> u32
     ensures { result ≡ to_bits binary32 x }
 {
-    if x != x { 2143289344 } else { f32::to_bits(x) }
+    if x.is_nan() { 0x7fc0_0000 } else { x.to_bits() }
 }
 
 fn double_bits(x: f64) -> u64
     ensures { result ≡ to_bits binary64 x }
 {
-    if x != x {
-        9221120237041090560
+    if x.is_nan() {
+        0x7ff8_0000_0000_0000
     } else {
-        f64::to_bits(x)
+        x.to_bits()
     }
 }
 
@@ -193,8 +159,7 @@ pub fn number_case(value: Value) -> u64
     ensures { result ≡ value_case value }
 {
     match value {
-        Value::None => 0,
-        Value::Text(_) => 0,
+        Value::None | Value::Text(_) => 0,
         Value::Number(n) => case_of(n),
     }
 }
@@ -203,8 +168,7 @@ pub fn number_bits(value: Value) -> u64
     ensures { result ≡ value_bits value }
 {
     match value {
-        Value::None => 0,
-        Value::Text(_) => 0,
+        Value::None | Value::Text(_) => 0,
         Value::Number(n) => bits_of(n),
     }
 }

@@ -1,13 +1,12 @@
 -- What a lookup, a set of names, a check and a part are handed over as. Assumes nothing: these are definitions.
-use Rattle.std.specs.Prelude.{ℕ, ◌+◌, ◌≤◌, ◌≡◌, List, length, take, drop, leb}
+use Rattle.std.specs.Prelude.{ℕ, ◌+◌, ◌≤◌, ◌≡◌, List, length, take, drop, leb, Option, Result}
 use Rattle.format.specs.Format.{pick}
+use Rattle.records.specs.declared.Refusal.{Refusal}
 use Rattle.records.specs.declared.Part.{Part}
 use Rattle.data_object.specs.Decoded.{bytes_of}
-use Rattle.lookup.specs.declared.LookupAnswer.{LookupAnswer}
 use Rattle.lookup.specs.Lookup.{Looked}
-use Rattle.lookup_names.specs.declared.NamesAnswer.{NamesAnswer}
 use Rattle.lookup_names.specs.Names.{LookedNames}
-use Rattle.data_object_check.specs.declared.CheckAnswer.{CheckAnswer}
+use Rattle.data_object_check.specs.declared.HeaderFigures.{HeaderFigures}
 use Rattle.firmware.specs.declared.PartWords.{PartWords}
 use Rattle.firmware.specs.declared.LookupWords.{LookupWords}
 use Rattle.firmware.specs.declared.CheckWords.{CheckWords}
@@ -15,19 +14,19 @@ use Rattle.firmware.specs.Words.{no_part, in_words, lookup_of, names_of, check_o
 
 -- the words of what a lookup yields
 pub record HandedRow (file table : List ℕ) (rows : ℕ) (name : List ℕ) (r : LookupWords) : Type 0 where
-  pub answer : LookupAnswer
+  pub answer : Result (Option ℕ) Refusal
   pub looked : Looked file table rows name answer
   pub words : r ≡ lookup_of answer
 
 -- the word of what a set of names yields, and the answers that it leaves
 pub record HandedNames (file table : List ℕ) (rows : ℕ) (text names : List ℕ) (lent : ℕ) (answers : List ℕ) (r : ℕ) : Type 0 where
-  pub answer : NamesAnswer
+  pub answer : Result (Unit {0}) Refusal
   pub looked : LookedNames file table rows text names lent answers answer
   pub word : r ≡ names_of answer
 
 -- the words of what a check yields, of which P is said
-pub record HandedCheck (P : CheckAnswer → Type 0) (r : CheckWords) : Type 0 where
-  pub answer : CheckAnswer
+pub record HandedCheck (P : Result HeaderFigures Refusal → Type 0) (r : CheckWords) : Type 0 where
+  pub answer : Result HeaderFigures Refusal
   pub checked : P answer
   pub words : r ≡ check_of answer
 

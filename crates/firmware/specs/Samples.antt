@@ -1,12 +1,9 @@
 -- The words for C worked through, one case for each answer, every field with a value of its own: fields in each other's place are not these. Assumes nothing.
-use Rattle.std.specs.Prelude.{◌≡◌, refl}
+use Rattle.std.specs.Prelude.{◌≡◌, refl, Some, None, Ok, Err}
 use Rattle.format.specs.Format.{found, refused}
 use Rattle.records.specs.declared.Address.TheVariants as addresses
 use Rattle.records.specs.declared.Refusal.TheVariants as refusals
 use Rattle.super_block.specs.declared.SuperBlock.{SuperBlock}
-use Rattle.lookup.specs.declared.LookupAnswer.TheVariants as lookups
-use Rattle.lookup_names.specs.declared.NamesAnswer.TheVariants as names
-use Rattle.data_object_check.specs.declared.CheckAnswer.TheVariants as checks
 use Rattle.firmware.specs.Words.{lookup_of, names_of, check_of}
 use Rattle.firmware.specs.Blocks.{block_of}
 
@@ -45,23 +42,23 @@ pub a_refused_superblock : block_of (refused 28)
     }
 a_refused_superblock = refl
 
-pub a_check : check_of (checks.Passed (record { next = 576; entries = 5; rows = 4 })) ≡ record { refused = 0; next = 576; entries = 5; rows = 4 }
+pub a_check : check_of (Ok (record { next = 576; entries = 5; rows = 4 })) ≡ record { refused = 0; next = 576; entries = 5; rows = 4 }
 a_check = refl
 
-pub a_refused_check : check_of (checks.Refused refusals.Checksum) ≡ record { refused = 28; next = 0; entries = 0; rows = 0 }
+pub a_refused_check : check_of (Err refusals.Checksum) ≡ record { refused = 28; next = 0; entries = 0; rows = 0 }
 a_refused_check = refl
 
-pub a_lookup : lookup_of (lookups.At 7) ≡ record { refused = 0; found = 1; row = 7 }
+pub a_lookup : lookup_of (Ok (Some 7)) ≡ record { refused = 0; found = 1; row = 7 }
 a_lookup = refl
 
-pub no_row : lookup_of lookups.Nothing ≡ record { refused = 0; found = 0; row = 0 }
+pub no_row : lookup_of (Ok None) ≡ record { refused = 0; found = 0; row = 0 }
 no_row = refl
 
-pub a_refused_lookup : lookup_of (lookups.Refused refusals.Table) ≡ record { refused = 24; found = 0; row = 0 }
+pub a_refused_lookup : lookup_of (Err refusals.Table) ≡ record { refused = 24; found = 0; row = 0 }
 a_refused_lookup = refl
 
-pub an_answered_set : names_of names.Answered ≡ 0
+pub an_answered_set : names_of (Ok tt) ≡ 0
 an_answered_set = refl
 
-pub a_refused_set : names_of (names.Refused refusals.Names) ≡ 29
+pub a_refused_set : names_of (Err refusals.Names) ≡ 29
 a_refused_set = refl

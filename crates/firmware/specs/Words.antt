@@ -1,14 +1,10 @@
 -- The words that are handed to C for a lookup, a set of names, a check and a part: each case of each answer has its number and its values. Assumes nothing: these are
 -- definitions.
-use Rattle.std.specs.Prelude.{ℕ}
+use Rattle.std.specs.Prelude.{ℕ, Option, Some, None, Result, Ok, Err}
 use Rattle.records.specs.Refusals.{refusal_number}
+use Rattle.records.specs.declared.Refusal.{Refusal}
 use Rattle.records.specs.declared.Part.{Part}
-use Rattle.lookup.specs.declared.LookupAnswer.{LookupAnswer}
-use Rattle.lookup.specs.declared.LookupAnswer.TheVariants as lookups
-use Rattle.lookup_names.specs.declared.NamesAnswer.{NamesAnswer}
-use Rattle.lookup_names.specs.declared.NamesAnswer.TheVariants as names
-use Rattle.data_object_check.specs.declared.CheckAnswer.{CheckAnswer}
-use Rattle.data_object_check.specs.declared.CheckAnswer.TheVariants as checks
+use Rattle.data_object_check.specs.declared.HeaderFigures.{HeaderFigures}
 use Rattle.firmware.specs.declared.PartWords.{PartWords}
 use Rattle.firmware.specs.declared.LookupWords.{LookupWords}
 use Rattle.firmware.specs.declared.CheckWords.{CheckWords}
@@ -24,17 +20,17 @@ no_part = record { position = 0; length = 0 }
 abbrev pub found_row : ℕ → ℕ → ℕ → LookupWords
 found_row refused found row = record { refused = refused; found = found; row = row }
 
-abbrev pub lookup_of : LookupAnswer → LookupWords
-lookup_of (lookups.At i) = found_row 0 1 i
-lookup_of lookups.Nothing = found_row 0 0 0
-lookup_of (lookups.Refused r) = found_row (refusal_number r) 0 0
+abbrev pub lookup_of : Result (Option ℕ) Refusal → LookupWords
+lookup_of (Ok (Some i)) = found_row 0 1 i
+lookup_of (Ok None) = found_row 0 0 0
+lookup_of (Err r) = found_row (refusal_number r) 0 0
 
 -- 0, or the refusal's number
-abbrev pub names_of : NamesAnswer → ℕ
-names_of names.Answered = 0
-names_of (names.Refused r) = refusal_number r
+abbrev pub names_of : Result (Unit {0}) Refusal → ℕ
+names_of (Ok u) = 0
+names_of (Err r) = refusal_number r
 
 -- 0 and the figures; the refusal's number and zeros
-abbrev pub check_of : CheckAnswer → CheckWords
-check_of (checks.Passed f) = record { refused = 0; next = f.next; entries = f.entries; rows = f.rows }
-check_of (checks.Refused r) = record { refused = refusal_number r; next = 0; entries = 0; rows = 0 }
+abbrev pub check_of : Result HeaderFigures Refusal → CheckWords
+check_of (Ok f) = record { refused = 0; next = f.next; entries = f.entries; rows = f.rows }
+check_of (Err r) = record { refused = refusal_number r; next = 0; entries = 0; rows = 0 }

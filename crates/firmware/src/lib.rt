@@ -3,9 +3,9 @@
 #![tactic(auto)]
 
 ghost use Rattle.std.specs.Prelude.{◌≡◌, length, take, drop};
+ghost use Rattle.helpers.specs.Answers.{out};
 ghost use Rattle.listing_text.specs.Listing.{listing_of, Counts};
 ghost use Rattle.super_block.specs.SuperBlocks.{super_block_of};
-ghost use Rattle.super_block.specs.Answers.{super_block_out};
 ghost use Rattle.data_object_check.specs.Checked.{Checked};
 ghost use Rattle.data_object_words.specs.Handed.{Handed, TrueWords};
 ghost use Rattle.data_object_root.specs.Root.{HandedRoot, CheckedRoot};
@@ -13,14 +13,15 @@ ghost use Rattle.firmware.specs.Words.{found_row, lookup_of, names_of, check_of}
 ghost use Rattle.firmware.specs.Blocks.{words_of_address, block_of};
 ghost use Rattle.firmware.specs.Handed.{HandedRow, HandedNames, HandedPart, HandedCheck};
 
-use data_object_check::{CheckAnswer, check_data_object};
+use data_object_check::{HeaderFigures, check_data_object};
 use data_object_root::{check_root, root_words};
 use data_object_words::header_words;
+use helpers::Parsed;
 use listing_text::list;
-use lookup::{LookupAnswer, lookup};
-use lookup_names::{NamesAnswer, lookup_names};
-use records::Address;
-use super_block::{SuperBlockRead, super_block};
+use lookup::lookup;
+use lookup_names::lookup_names;
+use records::{Address, Refusal};
+use super_block::{SuperBlock, super_block};
 
 // Bytes of the file, from a position on.
 #[repr(C)]
@@ -81,92 +82,100 @@ fn found_row(refused: u64, found: u64, row: u64) -> LookupWords
     }
 }
 
-fn lookup_words(answer: LookupAnswer) -> LookupWords
-    ensures { result ≡ lookup_of answer }
-{
-    match answer {
-        LookupAnswer::At(row) => found_row(0, 1, row as u64),
-        LookupAnswer::Nothing => found_row(0, 0, 0),
-        LookupAnswer::Refused(refusal) => {
-            let number = refusal.number();
-            found_row(number, 0, 0)
+impl From<Result<Option<usize>, Refusal>> for LookupWords {
+    ghost from_gives = { λ answer words. words ≡ lookup_of answer };
+
+    fn from(answer: Result<Option<usize>, Refusal>) -> Self {
+        match answer {
+            Ok(Some(row)) => found_row(0, 1, row as u64),
+            Ok(None) => found_row(0, 0, 0),
+            Err(refusal) => {
+                let number = refusal.number();
+                found_row(number, 0, 0)
+            }
         }
     }
 }
 
-fn names_word(answer: NamesAnswer) -> u64
+fn names_word(answer: Result<(), Refusal>) -> u64
     ensures { result ≡ names_of answer }
 {
     match answer {
-        NamesAnswer::Answered => 0,
-        NamesAnswer::Refused(refusal) => refusal.number(),
+        Ok(()) => 0,
+        Err(refusal) => refusal.number(),
     }
 }
 
-fn check_words(answer: CheckAnswer) -> CheckWords
-    ensures { result ≡ check_of answer }
-{
-    match answer {
-        CheckAnswer::Passed(figures) => CheckWords {
-            refused: 0,
-            next: figures.next as u64,
-            entries: figures.entries as u64,
-            rows: figures.rows as u64,
-        },
-        CheckAnswer::Refused(refusal) => {
-            let number = refusal.number();
-            CheckWords {
-                refused: number,
-                next: 0,
-                entries: 0,
-                rows: 0,
-            }
-        }
-    }
-}
+impl From<Result<HeaderFigures, Refusal>> for CheckWords {
+    ghost from_gives = { λ answer words. words ≡ check_of answer };
 
-fn address_words(address: Address) -> AddressWords
-    ensures { result ≡ words_of_address address }
-{
-    match address {
-        Address::Undefined => AddressWords {
-            undefined: 1,
-            number: 0,
-        },
-        Address::Number(number) => AddressWords {
-            undefined: 0,
-            number,
-        },
-    }
-}
-
-fn super_block_words(answer: SuperBlockRead) -> SuperBlockWords
-    ensures { result ≡ block_of (super_block_out answer) }
-{
-    match answer {
-        SuperBlockRead::Refused(refusal) => {
-            let number = refusal.number();
-            let none = address_words(Address::Number(0));
-            SuperBlockWords {
-                refused: number,
-                size_of_offsets: 0,
-                size_of_lengths: 0,
-                base_address: 0,
-                superblock_extension_address: none,
-                end_of_file_address: 0,
-                root_group_object_header_address: 0,
-            }
-        }
-        SuperBlockRead::Read(block, _) => {
-            let extension = block.superblock_extension_address;
-            SuperBlockWords {
+    fn from(answer: Result<HeaderFigures, Refusal>) -> Self {
+        match answer {
+            Ok(figures) => CheckWords {
                 refused: 0,
-                size_of_offsets: block.size_of_offsets as u64,
-                size_of_lengths: block.size_of_lengths as u64,
-                base_address: block.base_address,
-                superblock_extension_address: address_words(extension),
-                end_of_file_address: block.end_of_file_address,
-                root_group_object_header_address: block.root_group_object_header_address,
+                next: figures.next as u64,
+                entries: figures.entries as u64,
+                rows: figures.rows as u64,
+            },
+            Err(refusal) => {
+                let number = refusal.number();
+                CheckWords {
+                    refused: number,
+                    next: 0,
+                    entries: 0,
+                    rows: 0,
+                }
+            }
+        }
+    }
+}
+
+impl From<Address> for AddressWords {
+    ghost from_gives = { λ address words. words ≡ words_of_address address };
+
+    fn from(address: Address) -> Self {
+        match address {
+            Address::Undefined => AddressWords {
+                undefined: 1,
+                number: 0,
+            },
+            Address::Number(number) => AddressWords {
+                undefined: 0,
+                number,
+            },
+        }
+    }
+}
+
+impl From<Parsed<SuperBlock>> for SuperBlockWords {
+    ghost from_gives = { λ answer words. words ≡ block_of (out answer) };
+
+    fn from(answer: Parsed<SuperBlock>) -> Self {
+        match answer {
+            Err(refusal) => {
+                let number = refusal.number();
+                let none = AddressWords::from(Address::Number(0));
+                SuperBlockWords {
+                    refused: number,
+                    size_of_offsets: 0,
+                    size_of_lengths: 0,
+                    base_address: 0,
+                    superblock_extension_address: none,
+                    end_of_file_address: 0,
+                    root_group_object_header_address: 0,
+                }
+            }
+            Ok((block, _)) => {
+                let extension = block.superblock_extension_address;
+                SuperBlockWords {
+                    refused: 0,
+                    size_of_offsets: block.size_of_offsets as u64,
+                    size_of_lengths: block.size_of_lengths as u64,
+                    base_address: block.base_address,
+                    superblock_extension_address: AddressWords::from(extension),
+                    end_of_file_address: block.end_of_file_address,
+                    root_group_object_header_address: block.root_group_object_header_address,
+                }
             }
         }
     }
@@ -189,7 +198,7 @@ pub extern "C" fn dowringaf_super_block(file: &[u8]) -> SuperBlockWords
     ensures { result ≡ block_of (super_block_of file.now) }
 {
     let answer = super_block(file);
-    super_block_words(answer)
+    SuperBlockWords::from(answer)
 }
 
 // The object header at a position, checked without a table.
@@ -204,7 +213,7 @@ pub extern "C" fn dowringaf_check_data_object(
     ensures { HandedCheck (Checked file.now offset_width length_width end_of_file position) result }
 {
     let answer = check_data_object(file, position, offset_width, length_width, end_of_file);
-    check_words(answer)
+    CheckWords::from(answer)
 }
 
 // The root's object header of a plain file, checked without a table.
@@ -213,7 +222,7 @@ pub extern "C" fn dowringaf_check_root_object(file: &[u8]) -> CheckWords
     ensures { HandedCheck (CheckedRoot file.now) result }
 {
     let answer = check_root(file);
-    check_words(answer)
+    CheckWords::from(answer)
 }
 
 // The root's object header of a plain file: its messages in the table, and its words in the order
@@ -263,7 +272,7 @@ pub extern "C" fn dowringaf_lookup(
     ensures { HandedRow file.now table.now rows name.now result }
 {
     let answer = lookup(file, table, rows, name);
-    lookup_words(answer)
+    LookupWords::from(answer)
 }
 
 // For each wanted name, a part of the text, what `dowringaf_lookup` finds: its row plus one, or 0.

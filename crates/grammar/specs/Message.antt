@@ -1,7 +1,5 @@
 -- What stands in an entry: a message with the figures of its row, or a continuation. Assumes nothing: these are definitions.
-use Rattle.std.specs.Prelude.{ℕ}
-use Rattle.records.specs.declared.OptionPart.{OptionPart}
-use Rattle.records.specs.declared.OptionPart.TheVariants as parts
+use Rattle.std.specs.Prelude.{ℕ, Option, Some, None}
 use Rattle.records.specs.declared.DataSpace.{DataSpace}
 use Rattle.records.specs.declared.LinkInfo.{LinkInfo}
 use Rattle.records.specs.declared.GroupInfo.{GroupInfo}
@@ -12,6 +10,7 @@ use Rattle.records.specs.declared.Attribute.{Attribute}
 use Rattle.records.specs.declared.Value.{Value}
 use Rattle.records.specs.declared.Value.TheVariants as values
 use Rattle.records.specs.Numbers.{value_text, value_case, value_bits}
+use Rattle.records.specs.declared.Part.{Part}
 use Rattle.row.specs.declared.Row.{Row}
 
 -- what is kept of a message's body; of a fill value, a filter pipeline and a body that is skipped nothing is
@@ -39,15 +38,15 @@ pub data Held : Type 0 where
   continuation : ℕ → ℕ → Held
 
 -- an attribute has a name
-abbrev pub name_of : Kept → OptionPart
-name_of nothing = parts.None
-name_of (data_space d) = parts.None
-name_of (link_info l) = parts.None
-name_of (data_type t) = parts.None
-name_of (data_layout l) = parts.None
-name_of (group_info g) = parts.None
-name_of (attribute a) = parts.Some a.name
-name_of (attribute_info a) = parts.None
+abbrev pub name_of : Kept → Option Part
+name_of nothing = None
+name_of (data_space d) = None
+name_of (link_info l) = None
+name_of (data_type t) = None
+name_of (data_layout l) = None
+name_of (group_info g) = None
+name_of (attribute a) = Some a.name
+name_of (attribute_info a) = None
 
 -- an attribute may have a value
 abbrev pub value_of : Kept → Value
@@ -61,15 +60,15 @@ value_of (attribute a) = a.value
 value_of (attribute_info a) = values.None
 
 -- a layout's data and an attribute's text are parts of the file
-abbrev pub part_of : Kept → OptionPart
-part_of nothing = parts.None
-part_of (data_space d) = parts.None
-part_of (link_info l) = parts.None
-part_of (data_type t) = parts.None
-part_of (data_layout l) = parts.Some l.«data»
-part_of (group_info g) = parts.None
+abbrev pub part_of : Kept → Option Part
+part_of nothing = None
+part_of (data_space d) = None
+part_of (link_info l) = None
+part_of (data_type t) = None
+part_of (data_layout l) = Some l.«data»
+part_of (group_info g) = None
 part_of (attribute a) = value_text a.value
-part_of (attribute_info a) = parts.None
+part_of (attribute_info a) = None
 
 -- a message's row
 abbrev pub row_of : Message → Row

@@ -2,74 +2,19 @@
 // reader takes the file and a position, and answers the field with the position after it.
 #![tactic(auto)]
 
-ghost use Rattle.std.specs.Prelude.{◌≡◌, ◌+◌, ◌≤◌, ◌<◌, length, leb};
+ghost use Rattle.std.specs.Prelude.{◌≡◌, ◌+◌, ◌*◌, ◌^◌, ◌≤◌, ◌<◌, IfOk, length, leb};
 ghost use Rattle.format.specs.Bytes.{le, all_ones, name_length, text_length, to_multiple_of8};
 ghost use Rattle.format.specs.Format.{done, number, skip, name, text, nothing, read, signature as signed};
 ghost use Rattle.records.specs.Refusals.{refusal_number};
-ghost use Rattle.helpers.specs.Answers.{u8_out, u16_out, u32_out, u64_out, varint_out, address_out, taken_out, place_out, length_out, sized};
+ghost use Rattle.helpers.specs.Answers.{out, place_out, sized};
 ghost use Rattle.helpers.specs.Addresses.{address as address_format};
 
 use records::{Address, Refusal};
 
-// A number of a fixed width, and the position after it; or a field that leaves the file.
-#[derive(Drop)]
-pub enum ReadU8 {
-    Value(u8, usize),
-    Short,
-}
-
-#[derive(Drop)]
-pub enum ReadU16 {
-    Value(u16, usize),
-    Short,
-}
-
-#[derive(Drop)]
-pub enum ReadU32 {
-    Value(u32, usize),
-    Short,
-}
-
-#[derive(Drop)]
-pub enum ReadU64 {
-    Value(u64, usize),
-    Short,
-}
-
-// A number of a width that is given.
-#[derive(Drop)]
-pub enum ReadVarint {
-    Value(u64, usize),
-    Refused(Refusal),
-}
-
-// An address of a width that is given.
-#[derive(Drop)]
-pub enum ReadAddress {
-    Value(Address, usize),
-    Short,
-}
-
-// The position after bytes that are passed over.
-#[derive(Drop)]
-pub enum Taken {
-    At(usize),
-    Short,
-}
-
-// The position after fields of which nothing is kept.
-#[derive(Drop)]
-pub enum Place {
-    At(usize),
-    Refused(Refusal),
-}
-
-// The length of a name or a text, and the position after it.
-#[derive(Drop)]
-pub enum ReadLength {
-    Value(usize, usize),
-    Short,
-}
+// A field's value and the position after it, or why it is refused. File and position are two
+// parameters and no struct, since each contract would have to say that the struct that is handed on
+// has the caller's file.
+pub type Parsed<T> = Result<(T, usize), Refusal>;
 
 // The file has `count` bytes from `at` on.
 fn has(file: &[u8], at: usize, count: usize) -> bool
@@ -90,7 +35,8 @@ fn wide(b: u8) -> u64
     b as u64
 }
 
-// The number in 1, 2, 3, 4 or 8 bytes that the file has.
+// The number in 1, 2, 3, 4 or 8 bytes that the file has. Each is made of smaller ones: with one loop
+// for all, reading a field takes twice the instructions.
 fn bytes_1(file: &[u8], at: usize) -> u64
     requires { at + 1 ≤ length file.now }
     ensures { (result ≡ le file.now at 1) × (result < 256) }
@@ -144,79 +90,71 @@ pub fn bytes_of(file: &[u8], at: usize, size: usize) -> u64
     }
 }
 
-pub fn le_u8(file: &[u8], at: usize) -> ReadU8
-    ensures { u8_out result ≡ read file.now (number 1 done) at }
+// A number of `size` bytes, where `size` is known to be a width. Every other number is read by this.
+fn le(file: &[u8], at: usize, size: usize) -> Parsed<u64>
+    requires { size ≤ 8 }
+    ensures value { out result ≡ read file.now (number size done) at }
+    ensures below { IfOk result (λ p. p.0 < 2 ^ (8 * size)) }
 {
-    if has(file, at, 1) {
-        ReadU8::Value(bytes_1(file, at) as u8, at + 1)
+    if has(file, at, size) {
+        Ok((bytes_of(file, at, size), at + size))
     } else {
-        ReadU8::Short
+        Err(Refusal::Short)
     }
 }
 
-pub fn le_u16(file: &[u8], at: usize) -> ReadU16
-    ensures { u16_out result ≡ read file.now (number 2 done) at }
+// The widths that the fields have. They stay by their names: a trait over their types would say as
+// much with a ghost value and a law for each.
+pub fn le_u8(file: &[u8], at: usize) -> Parsed<u8>
+    ensures { out result ≡ read file.now (number 1 done) at }
 {
-    if has(file, at, 2) {
-        ReadU16::Value(bytes_2(file, at) as u16, at + 2)
-    } else {
-        ReadU16::Short
-    }
+    let (value, next) = le(file, at, 1)?;
+    Ok((value as u8, next))
 }
 
-pub fn le_u24(file: &[u8], at: usize) -> ReadU32
-    ensures { u32_out result ≡ read file.now (number 3 done) at }
+pub fn le_u16(file: &[u8], at: usize) -> Parsed<u16>
+    ensures { out result ≡ read file.now (number 2 done) at }
 {
-    if has(file, at, 3) {
-        ReadU32::Value(bytes_3(file, at) as u32, at + 3)
-    } else {
-        ReadU32::Short
-    }
+    let (value, next) = le(file, at, 2)?;
+    Ok((value as u16, next))
 }
 
-pub fn le_u32(file: &[u8], at: usize) -> ReadU32
-    ensures { u32_out result ≡ read file.now (number 4 done) at }
+pub fn le_u24(file: &[u8], at: usize) -> Parsed<u32>
+    ensures { out result ≡ read file.now (number 3 done) at }
 {
-    if has(file, at, 4) {
-        ReadU32::Value(bytes_4(file, at) as u32, at + 4)
-    } else {
-        ReadU32::Short
-    }
+    let (value, next) = le(file, at, 3)?;
+    Ok((value as u32, next))
 }
 
-pub fn le_u64(file: &[u8], at: usize) -> ReadU64
-    ensures { u64_out result ≡ read file.now (number 8 done) at }
+pub fn le_u32(file: &[u8], at: usize) -> Parsed<u32>
+    ensures { out result ≡ read file.now (number 4 done) at }
 {
-    if has(file, at, 8) {
-        ReadU64::Value(bytes_8(file, at), at + 8)
-    } else {
-        ReadU64::Short
-    }
+    let (value, next) = le(file, at, 4)?;
+    Ok((value as u32, next))
+}
+
+pub fn le_u64(file: &[u8], at: usize) -> Parsed<u64>
+    ensures { out result ≡ read file.now (number 8 done) at }
+{
+    varint(file, at, 8)
 }
 
 // A number of `size` bytes, where `size` is known to be a width.
-pub fn varint(file: &[u8], at: usize, size: usize) -> ReadU64
+pub fn varint(file: &[u8], at: usize, size: usize) -> Parsed<u64>
     requires { size ≤ 8 }
-    ensures { u64_out result ≡ read file.now (number size done) at }
+    ensures { out result ≡ read file.now (number size done) at }
 {
-    if has(file, at, size) {
-        ReadU64::Value(bytes_of(file, at, size), at + size)
-    } else {
-        ReadU64::Short
-    }
+    le(file, at, size)
 }
 
 // A number of `size` bytes; a size above 8 is refused as a width.
-pub fn varint_size(file: &[u8], at: usize, size: usize) -> ReadVarint
-    ensures { varint_out result ≡ read file.now (sized size) at }
+pub fn varint_size(file: &[u8], at: usize, size: usize) -> Parsed<u64>
+    ensures { out result ≡ read file.now (sized size) at }
 {
     if 8 < size {
-        return ReadVarint::Refused(Refusal::Width);
+        return Err(Refusal::Width);
     }
-    let ReadU64::Value(value, next) = varint(file, at, size) else {
-        return ReadVarint::Refused(Refusal::Short);
-    };
-    ReadVarint::Value(value, next)
+    varint(file, at, size)
 }
 
 // All ones in `width` bytes.
@@ -238,27 +176,25 @@ pub fn all_ones(width: usize) -> u64
 }
 
 // An address of `size` bytes, where `size` is known to be a width.
-pub fn address(file: &[u8], at: usize, size: usize) -> ReadAddress
+pub fn address(file: &[u8], at: usize, size: usize) -> Parsed<Address>
     requires { size ≤ 8 }
-    ensures { address_out result ≡ read file.now (address_format size) at }
+    ensures { out result ≡ read file.now (address_format size) at }
 {
-    let ReadU64::Value(value, next) = varint(file, at, size) else {
-        return ReadAddress::Short;
-    };
+    let (value, next) = varint(file, at, size)?;
     if value == all_ones(size) {
-        return ReadAddress::Value(Address::Undefined, next);
+        return Ok((Address::Undefined, next));
     }
-    ReadAddress::Value(Address::Number(value), next)
+    Ok((Address::Number(value), next))
 }
 
 // `count` bytes are passed over.
-pub fn take(file: &[u8], at: usize, count: usize) -> Taken
-    ensures { taken_out result ≡ read file.now (skip count nothing) at }
+pub fn take(file: &[u8], at: usize, count: usize) -> Result<usize, Refusal>
+    ensures { place_out result ≡ read file.now (skip count nothing) at }
 {
     if has(file, at, count) {
-        Taken::At(at + count)
+        Ok(at + count)
     } else {
-        Taken::Short
+        Err(Refusal::Short)
     }
 }
 
@@ -274,35 +210,32 @@ fn name_length(file: &[u8], at: usize, limit: usize) -> usize
     requires { at ≤ length file.now }
     ensures { (result ≡ name_length file.now at limit) × (at + result ≤ length file.now) }
 {
-    let mut n: usize = 0;
-    while n < limit {
-        if file.len() - at <= n {
-            return n;
-        }
+    let room = file.len() - at;
+    let most = if room < limit { room } else { limit };
+    for n in 0..most {
         if file[at + n] == 0 {
             return n;
         }
-        n = n + 1;
     }
-    n
+    most
 }
 
 // A name that ends before its first zero or at `limit` bytes.
-pub fn take_till(file: &[u8], at: usize, limit: usize) -> ReadLength
-    ensures { length_out result ≡ read file.now (name limit done) at }
+pub fn take_till(file: &[u8], at: usize, limit: usize) -> Parsed<usize>
+    ensures { out result ≡ read file.now (name limit done) at }
 {
     if file.len() < at {
-        return ReadLength::Short;
+        return Err(Refusal::Short);
     }
     let n = name_length(file, at, limit);
     let end = at + n;
     if end < file.len() {
-        return ReadLength::Value(n, end);
+        return Ok((n, end));
     }
     if n == limit {
-        return ReadLength::Value(n, end);
+        return Ok((n, end));
     }
-    ReadLength::Short
+    Err(Refusal::Short)
 }
 
 // How many of the `count` bytes at `at` are left without the zeros at their end.
@@ -310,36 +243,32 @@ fn text_length(file: &[u8], at: usize, count: usize) -> usize
     requires { at + count ≤ length file.now }
     ensures { (result ≡ text_length file.now at count) × (result ≤ count) }
 {
-    let mut n = count;
-    while 0 < n {
-        if file[at + (n - 1)] != 0 {
-            return n;
+    for n in (0..count).rev() {
+        if file[at + n] != 0 {
+            return n + 1;
         }
-        n = n - 1;
     }
-    n
+    0
 }
 
 // A text in `count` bytes, without the zeros at its end.
-pub fn trim_end(file: &[u8], at: usize, count: usize) -> ReadLength
-    ensures { length_out result ≡ read file.now (text count done) at }
+pub fn trim_end(file: &[u8], at: usize, count: usize) -> Parsed<usize>
+    ensures { out result ≡ read file.now (text count done) at }
 {
     if has(file, at, count) {
-        ReadLength::Value(text_length(file, at, count), at + count)
+        Ok((text_length(file, at, count), at + count))
     } else {
-        ReadLength::Short
+        Err(Refusal::Short)
     }
 }
 
 // A signature: four given bytes, the lowest first. Others are refused.
-pub fn signature(file: &[u8], at: usize, mark: u32, refusal: Refusal) -> Place
+pub fn signature(file: &[u8], at: usize, mark: u32, refusal: Refusal) -> Result<usize, Refusal>
     ensures { place_out result ≡ read file.now (signed mark (refusal_number refusal)) at }
 {
-    let ReadU32::Value(value, next) = le_u32(file, at) else {
-        return Place::Refused(Refusal::Short);
-    };
+    let (value, next) = le_u32(file, at)?;
     if value != mark {
-        return Place::Refused(refusal);
+        return Err(refusal);
     }
-    Place::At(next)
+    Ok(next)
 }

@@ -1,5 +1,5 @@
 -- Laws of the listing. Assumes nothing.
-use Rattle.std.specs.Prelude.{ℕ, zero, suc, ◌+◌, ◌*◌, ◌/◌, ◌≤◌, ◌<◌, ◌≡◌, List, [], ◌∷◌, ◌++◌, length, get_or, take, replicate}
+use Rattle.std.specs.Prelude.{ℕ, zero, suc, ◌+◌, ◌*◌, ◌/◌, ◌≤◌, ◌<◌, ◌≡◌, List, [], ◌∷◌, ◌++◌, length, get_or, take, replicate, Result, Ok, Err}
 use Rattle.std.proofs.Math.Path.{refl, ap}
 use Rattle.std.proofs.Common.{sym, ◌∙◌, append_assoc, append-nil, arith, add-one, length-append, length-take, ne_eqb}
 use Rattle.std.proofs.lemmas.List.{length-replicate}
@@ -17,11 +17,7 @@ use Rattle.grammar.specs.Walk.{Went, reached, stopped, lent, without_table}
 use Rattle.data_object_header.specs.Headers.{decode}
 use Rattle.data_object_header.specs.Passing.{decode_beside}
 use Rattle.data_object_check.specs.declared.HeaderFigures.{HeaderFigures}
-use Rattle.data_object_check.specs.declared.CheckAnswer.{CheckAnswer}
-use Rattle.data_object_check.specs.declared.CheckAnswer.TheVariants as checks
 use Rattle.data_object_check.specs.Checked.{check_out, figures, Checked}
-use Rattle.data_object.specs.declared.Answer.{Answer}
-use Rattle.data_object.specs.declared.Answer.TheVariants as answers
 use Rattle.data_object.specs.declared.DataObject.{DataObject}
 use Rattle.data_object.specs.Decoded.{answer_out, counts, decoded, Meant, Decoded}
 use Rattle.data_object.specs.DecodedLaws.{complete, accepted_rows}
@@ -68,11 +64,11 @@ module _ (file : List ℕ) (offsets lengths end at n : ℕ) (r : DataObject) (t 
       refusal x (reached xs q) e = never e
       refusal x (stopped k m) e = let z : refusal_number x ≡ k = cc in ap refused_of z
 
-      go : (a : Answer) → r.answer ≡ a → answer_out a ≡ counts (decoded file offsets lengths end at n) → Meant file offsets lengths end at n a r t
+      go : (a : Result (ℕ × ℕ) Refusal) → r.answer ≡ a → answer_out a ≡ counts (decoded file offsets lengths end at n) → Meant file offsets lengths end at n a r t
           → words_text (words_of r) (first_rows t r.rows) ≡ result_of (decoded file offsets lengths end at n)
-      go (answers.Read next count) s e m =
+      go (Ok (next, count)) s e m =
           rw (s, m.entries, accepted_rows file offsets lengths end at n m) (sym (ap result_of (complete file offsets lengths end at n next m.items m.readable)))
-      go (answers.Refused x) s e m = rw (s, ne_eqb (refusal_number x) 0 (refusal_positive x)) (refusal x (decoded file offsets lengths end at n) e)
+      go (Err x) s e m = rw (s, ne_eqb (refusal_number x) 0 (refusal_positive x)) (refusal x (decoded file offsets lengths end at n) e)
 
 -- 512 rows are lent
 module _ (file : List ℕ) (offsets lengths end at : ℕ) (t w : List ℕ) (h : Handed file offsets lengths end at (length (replicate {A = ℕ} (512 * row_words) 0)) t w) where
@@ -104,12 +100,12 @@ module _ (file : List ℕ) (offsets lengths end at : ℕ) where
   pass_listed f q (reached xs next) e = refl
   pass_listed f q (stopped k n) e = never (sym e)
 
-  module _ (a : CheckAnswer) (c : Checked file offsets lengths end at a) where
-    pub check_refused : (x : Refusal) → a ≡ checks.Refused x → refused_of (refusal_number x) ≡ header_text file offsets lengths end at
+  module _ (a : Result HeaderFigures Refusal) (c : Checked file offsets lengths end at a) where
+    pub check_refused : (x : Refusal) → a ≡ Err x → refused_of (refusal_number x) ≡ header_text file offsets lengths end at
     unfolding header_text
     check_refused x e = refusal_listed (refusal_number x) (decode file offsets lengths end at without_table) (sym (ap check_out e) ∙ c.answer)
 
-    pub check_passed : (f : HeaderFigures) → a ≡ checks.Passed f → result_of (decode file offsets lengths end at (lent 512)) ≡ header_text file offsets lengths end at
+    pub check_passed : (f : HeaderFigures) → a ≡ Ok f → result_of (decode file offsets lengths end at (lent 512)) ≡ header_text file offsets lengths end at
     unfolding header_text
     check_passed f e = pass_listed f f.next (decode file offsets lengths end at without_table) (sym (ap check_out e) ∙ c.answer)
 

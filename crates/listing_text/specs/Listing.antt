@@ -1,9 +1,7 @@
 -- The bytes of a listing. Assumes nothing: these are definitions.
-use Rattle.std.specs.Prelude.{ℕ, suc, ◌≤◌, ◌≡◌, true, false, List, [], ◌∷◌, ◌++◌, length, get_or, take, ltb, eqb}
+use Rattle.std.specs.Prelude.{ℕ, suc, ◌≤◌, ◌≡◌, List, [], ◌∷◌, ◌++◌, length, get_or, take, ltb, eqb, Option, Some, option_map}
 use Rattle.text.specs.Text.{field}
 use Rattle.format.specs.Format.{Out, found, refused, pick}
-use Rattle.records.specs.declared.OptionPart.{OptionPart}
-use Rattle.records.specs.declared.OptionPart.TheVariants as parts
 use Rattle.row.specs.declared.Row.{Row}
 use Rattle.grammar.specs.Grammar.{Item}
 use Rattle.grammar.specs.Table.{rows_of}
@@ -11,20 +9,20 @@ use Rattle.grammar.specs.Walk.{Went, reached, stopped, lent, without_table}
 use Rattle.data_object_header.specs.Headers.{decode}
 use Rattle.super_block.specs.declared.SuperBlock.{SuperBlock}
 use Rattle.super_block.specs.SuperBlocks.{super_block_of}
+use Rattle.records.specs.declared.Part.{Part}
 
 -- a line: row, type, flags, size, body position; 44 is a comma
 unfoldable pub head_of : ℕ → Row → List ℕ
 head_of i r =
-    field true i 44
-    ++ (field true r.kind 44
-    ++ (field true r.flags 44
-    ++ (field true r.size 44
-    ++ field true r.body 44)))
+    field (Some i) 44
+    ++ (field (Some r.kind) 44
+    ++ (field (Some r.flags) 44
+    ++ (field (Some r.size) 44
+    ++ field (Some r.body) 44)))
 
 -- the position and the length of a part, or two hyphens
-unfoldable pub place_of : OptionPart → ℕ → List ℕ
-place_of (parts.Some p) end = field true p.position 44 ++ field true p.length end
-place_of parts.None end = field false 0 44 ++ field false 0 end
+unfoldable pub place_of : Option Part → ℕ → List ℕ
+place_of part end = field (option_map (λ p. p.position) part) 44 ++ field (option_map (λ p. p.length) part) end
 
 -- and then name position, name length, part position, part length; 10 ends the line
 unfoldable pub line_of : ℕ → Row → List ℕ
@@ -37,11 +35,11 @@ lines_of i (r ∷ rs) = line_of i r ++ lines_of (suc i) rs
 
 -- `end,NEXT,ENTRIES`
 unfoldable pub end_of : ℕ → ℕ → List ℕ
-end_of next entries = (101 ∷ 110 ∷ 100 ∷ 44 ∷ []) ++ (field true next 44 ++ field true entries 10)
+end_of next entries = (101 ∷ 110 ∷ 100 ∷ 44 ∷ []) ++ (field (Some next) 44 ++ field (Some entries) 10)
 
 -- `refused,N`
 unfoldable pub refused_of : ℕ → List ℕ
-refused_of n = (114 ∷ 101 ∷ 102 ∷ 117 ∷ 115 ∷ 101 ∷ 100 ∷ 44 ∷ []) ++ field true n 10
+refused_of n = (114 ∷ 101 ∷ 102 ∷ 117 ∷ 115 ∷ 101 ∷ 100 ∷ 44 ∷ []) ++ field (Some n) 10
 
 -- what decoding gives: a line a row, and the last; a refusal alone
 unfoldable pub result_of : Went (List Item) → List ℕ

@@ -8,40 +8,32 @@ ghost use Rattle.grammar.specs.Walk.{lent};
 ghost use Rattle.data_object_header.specs.Headers.{decode};
 ghost use Rattle.listing_text.specs.Listing.{head_of, place_of, line_of, lines_of, end_of, refused_of, result_of, words_text, header_text, listing_of, Counts};
 
-use data_object_check::{CheckAnswer, check_data_object};
+use data_object_check::check_data_object;
 use data_object_words::header_words;
-use records::OptionPart;
+use records::Part;
 use row::{ROW_WORDS, Row, row_at};
-use super_block::{SuperBlockRead, super_block};
+use super_block::super_block;
 
 fn put_head(out: &mut [u8], at: usize, i: usize, row: Row) -> usize
     requires { at + 105 ≤ length out.old }
     ensures wrote { Wrote out.old at out.new result (head_of i row) }
     ensures upper_bound { result ≤ at + 105 }
 {
-    let at = text::put_field(out, at, true, i as u64, b',');
-    let at = text::put_field(out, at, true, row.kind, b',');
-    let at = text::put_field(out, at, true, row.flags, b',');
-    let at = text::put_field(out, at, true, row.size, b',');
-    text::put_field(out, at, true, row.body as u64, b',')
+    let at = text::put_field(out, at, Some(i as u64), b',');
+    let at = text::put_field(out, at, Some(row.kind), b',');
+    let at = text::put_field(out, at, Some(row.flags), b',');
+    let at = text::put_field(out, at, Some(row.size), b',');
+    text::put_field(out, at, Some(row.body as u64), b',')
 }
 
 // The position and the length of a part, or two hyphens.
-fn put_part(out: &mut [u8], at: usize, part: OptionPart, end: u8) -> usize
+fn put_part(out: &mut [u8], at: usize, part: Option<Part>, end: u8) -> usize
     requires { at + 42 ≤ length out.old }
     ensures wrote { Wrote out.old at out.new result (place_of part end) }
     ensures upper_bound { result ≤ at + 42 }
 {
-    match part {
-        OptionPart::None => {
-            let at = text::put_field(out, at, false, 0, b',');
-            text::put_field(out, at, false, 0, end)
-        }
-        OptionPart::Some(p) => {
-            let at = text::put_field(out, at, true, p.position as u64, b',');
-            text::put_field(out, at, true, p.length as u64, end)
-        }
-    }
+    let at = text::put_field(out, at, part.map(|p| p.position as u64), b',');
+    text::put_field(out, at, part.map(|p| p.length as u64), end)
 }
 
 fn put_line(out: &mut [u8], at: usize, i: usize, row: Row) -> usize
@@ -49,11 +41,9 @@ fn put_line(out: &mut [u8], at: usize, i: usize, row: Row) -> usize
     ensures wrote { Wrote out.old at out.new result (line_of i row) }
     ensures upper_bound { result ≤ at + 189 }
 {
-    let name = row.name;
-    let part = row.part;
     let at = put_head(out, at, i, row);
-    let at = put_part(out, at, name, b',');
-    put_part(out, at, part, b'\n')
+    let at = put_part(out, at, row.name, b',');
+    put_part(out, at, row.part, b'\n')
 }
 
 fn put_lines(out: &mut [u8], table: &[u64], rows: usize) -> usize
@@ -62,10 +52,8 @@ fn put_lines(out: &mut [u8], table: &[u64], rows: usize) -> usize
     ensures upper_bound { result ≤ rows * 189 }
 {
     let mut at = 0;
-    let mut i = 0;
-    while i < rows {
+    for i in 0..rows {
         at = put_line(out, at, i, row_at(table, i));
-        i += 1;
     }
     at
 }
@@ -75,8 +63,8 @@ fn put_end(out: &mut [u8], at: usize, next: u64, entries: u64) -> usize
     ensures { Wrote out.old at out.new result (end_of next entries) }
 {
     let at = text::put_text(out, at, b"end,");
-    let at = text::put_field(out, at, true, next, b',');
-    text::put_field(out, at, true, entries, b'\n')
+    let at = text::put_field(out, at, Some(next), b',');
+    text::put_field(out, at, Some(entries), b'\n')
 }
 
 // The line of a refusal, put at the start of out.
@@ -85,7 +73,7 @@ pub fn put_refused(out: &mut [u8], n: u64) -> usize
     ensures { Wrote out.old 0 out.new result (refused_of n) }
 {
     let at = text::put_text(out, 0, b"refused,");
-    text::put_field(out, at, true, n, b'\n')
+    text::put_field(out, at, Some(n), b'\n')
 }
 
 // A header's words, with the rows of its table, as text.
@@ -143,18 +131,11 @@ pub fn list_header(
     ensures out_unchanged { drop result out.new ≡ drop result out.old }
 {
     match check_data_object(file, position, offset_width, length_width, end_of_file) {
-        CheckAnswer::Refused(refusal) => {
+        Err(refusal) => {
             let check = refusal.number();
             put_refused(out, check)
         }
-        CheckAnswer::Passed(_) => fill_header(
-            file,
-            position,
-            offset_width,
-            length_width,
-            end_of_file,
-            out,
-        ),
+        Ok(_) => fill_header(file, position, offset_width, length_width, end_of_file, out),
     }
 }
 
@@ -168,11 +149,11 @@ pub fn list(file: &[u8], out: &mut [u8; 98304]) -> usize
         return put_refused(out, 2);
     }
     match super_block(file) {
-        SuperBlockRead::Refused(refusal) => {
+        Err(refusal) => {
             let number = refusal.number();
             put_refused(out, number)
         }
-        SuperBlockRead::Read(block, _) => list_header(
+        Ok((block, _)) => list_header(
             file,
             block.root_group_object_header_address,
             block.size_of_offsets as u64,
@@ -183,18 +164,6 @@ pub fn list(file: &[u8], out: &mut [u8; 98304]) -> usize
     }
 }
 
-// The listing of the first n bytes of a buffer, and of all of it where it has fewer.
-fn list_first(input: &[u8], n: usize, out: &mut [u8; 98304]) -> usize
-    ensures counts { Counts result out.new }
-    ensures out_after { take result out.new ≡ listing_of (take n input.now) }
-    ensures out_unchanged { drop result out.new ≡ drop result out.old }
-{
-    if input.len() < n {
-        return list(input, out);
-    }
-    list(&input[..n], out)
-}
-
 // The listing of what was read into a buffer that has one byte more than is taken, so that whoever
 // fills it can tell a file that is too long from one that is not. A count above the buffer's length
 // is that length.
@@ -203,5 +172,8 @@ pub fn list_input(input: &[u8; 65537], n: usize, out: &mut [u8; 98304]) -> usize
     ensures out_after { take result out.new ≡ listing_of (take n input.now) }
     ensures out_unchanged { drop result out.new ≡ drop result out.old }
 {
-    list_first(input, n, out)
+    if input.len() < n {
+        return list(input, out);
+    }
+    list(&input[..n], out)
 }

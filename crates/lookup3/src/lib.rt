@@ -4,35 +4,16 @@
 
 ghost use Rattle.std.specs.Prelude.{◌≡◌, ◌+◌, ◌≤◌, ◌<◌, length};
 ghost use Rattle.format.specs.Bytes.{le};
-ghost use Rattle.lookup3.specs.Lookup3.{plus, minus, rotate, mix_line, mix, final_line, final_mix, add_block, start, lookup3, sum_matches};
+ghost use Rattle.lookup3.specs.Lookup3.{mix_line, mix, final_line, final_mix, add_block, start, lookup3, sum_matches};
 
 use helpers::{bytes_4, bytes_of};
 
 // The three words that bytes are mixed into.
-#[derive(Drop)]
+#[derive(Clone, Copy)]
 pub struct Words {
     a: u32,
     b: u32,
     c: u32,
-}
-
-fn plus(x: u32, y: u32) -> u32
-    ensures { result ≡ plus x y }
-{
-    ((x as u64 + y as u64) % 4294967296) as u32
-}
-
-fn minus(x: u32, y: u32) -> u32
-    ensures { result ≡ minus x y }
-{
-    ((x as u64 + 4294967296 - y as u64) % 4294967296) as u32
-}
-
-fn rotate(x: u32, k: u32) -> u32
-    requires { (0 < k) × (k < 32) }
-    ensures { result ≡ rotate x k }
-{
-    (x << k) + (x >> (32 - k))
 }
 
 // One line of the published mix. The words are handed on under the names of the next line.
@@ -42,8 +23,8 @@ fn mix_line(w: Words, k: u32) -> Words
 {
     Words {
         a: w.b,
-        b: plus(w.c, w.b),
-        c: minus(w.a, w.c) ^ rotate(w.c, k),
+        b: w.c.wrapping_add(w.b),
+        c: w.a.wrapping_sub(w.c) ^ w.c.rotate_left(k),
     }
 }
 
@@ -61,7 +42,7 @@ fn final_line(w: Words, k: u32) -> Words
 {
     Words {
         a: w.b,
-        b: minus(w.c ^ w.b, rotate(w.b, k)),
+        b: (w.c ^ w.b).wrapping_sub(w.b.rotate_left(k)),
         c: w.a,
     }
 }
@@ -79,9 +60,9 @@ fn add_block(part: &[u8], at: usize, w: Words) -> Words
     ensures { result ≡ add_block part.now at w }
 {
     Words {
-        a: plus(w.a, bytes_4(part, at) as u32),
-        b: plus(w.b, bytes_4(part, at + 4) as u32),
-        c: plus(w.c, bytes_4(part, at + 8) as u32),
+        a: w.a.wrapping_add(bytes_4(part, at) as u32),
+        b: w.b.wrapping_add(bytes_4(part, at + 4) as u32),
+        c: w.c.wrapping_add(bytes_4(part, at + 8) as u32),
     }
 }
 
@@ -104,16 +85,16 @@ fn add_last(part: &[u8], at: usize, w: Words) -> Words
     ensures { result ≡ add_block part.now at w }
 {
     Words {
-        a: plus(w.a, word(part, at)),
-        b: plus(w.b, word(part, at + 4)),
-        c: plus(w.c, word(part, at + 8)),
+        a: w.a.wrapping_add(word(part, at)),
+        b: w.b.wrapping_add(word(part, at + 4)),
+        c: w.c.wrapping_add(word(part, at + 8)),
     }
 }
 
 fn start(length: usize) -> Words
     ensures { result ≡ start length }
 {
-    let word = ((length % 4294967296 + 0xDEADBEEF) % 4294967296) as u32;
+    let word = 0xDEADBEEFu32.wrapping_add((length % 4294967296) as u32);
     Words {
         a: word,
         b: word,
@@ -130,12 +111,11 @@ pub fn lookup3(part: &[u8]) -> u32
     if length == 0 {
         return w.c;
     }
-    let mut at = 0;
-    while 12 < length - at {
-        w = mix(add_block(part, at, w));
-        at += 12;
+    let whole = (length - 1) / 12;
+    for i in 0..whole {
+        w = mix(add_block(part, 12 * i, w));
     }
-    final_mix(add_last(part, at, w))
+    final_mix(add_last(part, 12 * whole, w))
 }
 
 // Whether the checksum stored at `end` is that of the bytes from `from` up to it.

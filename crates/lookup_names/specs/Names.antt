@@ -1,14 +1,10 @@
 -- What many names are answered with: each as the single lookup answers it. Assumes nothing: these are definitions.
-use Rattle.std.specs.Prelude.{ℕ, ◌+◌, ◌*◌, ◌/◌, min, ◌≤◌, ◌<◌, ◌≡◌, ◌⊎◌, List, length, take, drop, get_or, replicate}
+use Rattle.std.specs.Prelude.{ℕ, ◌+◌, ◌*◌, ◌/◌, min, ◌≤◌, ◌<◌, ◌≡◌, ◌⊎◌, List, length, take, drop, get_or, replicate, Option, Some, None, Result, Ok, Err}
 use Rattle.records.specs.declared.Part.{Part}
 use Rattle.records.specs.declared.Refusal.{Refusal}
 use Rattle.records.specs.declared.Refusal.TheVariants as refusals
 use Rattle.row.specs.Rows.{row_words}
 use Rattle.lookup.specs.Lookup.{Looked}
-use Rattle.lookup.specs.declared.LookupAnswer.{LookupAnswer}
-use Rattle.lookup.specs.declared.LookupAnswer.TheVariants as lookups
-use Rattle.lookup_names.specs.declared.NamesAnswer.{NamesAnswer}
-use Rattle.lookup_names.specs.declared.NamesAnswer.TheVariants as answered
 
 -- a set is position and length of each name in the text, a word each; an odd last word is none
 abbrev pub names_in : List ℕ → ℕ
@@ -25,14 +21,14 @@ abbrev pub names_allowed : ℕ → ℕ
 names_allowed lent = min most_names lent
 
 -- an answer of the single lookup as a word: its row plus one, 0 for nothing
-abbrev pub row_plus_one : LookupAnswer → ℕ
-row_plus_one (lookups.At i) = i + 1
-row_plus_one lookups.Nothing = 0
-row_plus_one (lookups.Refused r) = 0
+abbrev pub row_plus_one : Result (Option ℕ) Refusal → ℕ
+row_plus_one (Ok (Some i)) = i + 1
+row_plus_one (Ok None) = 0
+row_plus_one (Err r) = 0
 
 -- the word is what the single lookup answers for the name
 pub record LookedAs (file table : List ℕ) (rows : ℕ) (name : List ℕ) (word : ℕ) : Type 0 where
-  pub answer : LookupAnswer
+  pub answer : Result (Option ℕ) Refusal
   pub looked : Looked file table rows name answer
   pub same : word ≡ row_plus_one answer
 
@@ -54,7 +50,7 @@ RefusedAs table rows names lent r =
     ⊎ ((r ≡ refusals.Table) × (names_in names ≤ names_allowed lent) × (length table / row_words < rows))
 
 -- what the operation leaves in the answers lent, and answers itself; a refusal leaves zeros
-abbrev pub LookedNames : List ℕ → List ℕ → ℕ → List ℕ → List ℕ → ℕ → List ℕ → NamesAnswer → Type 0
-LookedNames file table rows text names lent answers answered.Answered =
+abbrev pub LookedNames : List ℕ → List ℕ → ℕ → List ℕ → List ℕ → ℕ → List ℕ → Result (Unit {0}) Refusal → Type 0
+LookedNames file table rows text names lent answers (Ok u) =
     (names_in names ≤ names_allowed lent) × (rows ≤ length table / row_words) × Answers file table rows text names lent (names_in names) answers
-LookedNames file table rows text names lent answers (answered.Refused r) = RefusedAs table rows names lent r × (answers ≡ replicate lent 0)
+LookedNames file table rows text names lent answers (Err r) = RefusedAs table rows names lent r × (answers ≡ replicate lent 0)

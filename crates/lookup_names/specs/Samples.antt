@@ -1,6 +1,5 @@
 -- A worked sample of many names: a file, a table, the names asked for, and the answers lent. Assumes nothing: these are definitions.
-use Rattle.std.specs.Prelude.{ℕ, List, [], ◌∷◌}
-use Rattle.records.specs.declared.OptionPart.TheVariants as parts
+use Rattle.std.specs.Prelude.{ℕ, List, [], ◌∷◌, Some, None}
 use Rattle.row.specs.declared.Row.{Row}
 use Rattle.row.specs.Rows.{encode}
 
@@ -10,7 +9,7 @@ file = 97 ∷ 98 ∷ []
 
 abbrev pub attribute : ℕ → Row
 attribute at =
-    record { kind = 12; flags = 0; size = 0; body = 0; name = parts.Some (record { position = at; length = 1 }); part = parts.None; number_case = 0; number_bits = 0 }
+    record { kind = 12; flags = 0; size = 0; body = 0; name = Some (record { position = at; length = 1 }); part = None; number_case = 0; number_bits = 0 }
 
 abbrev pub table : List ℕ
 table = encode (attribute 0 ∷ attribute 1 ∷ [])

@@ -1,19 +1,16 @@
 -- Each answer is the single lookup's, and a set of names has one outcome: what the contract says decides every word. Assumes nothing.
-use Rattle.std.specs.Prelude.{ℕ, ◌+◌, ◌/◌, ◌≤◌, ◌≡◌, refl, Bool, true, false, List, length, take, drop, get_or, leb}
+use Rattle.std.specs.Prelude.{ℕ, ◌+◌, ◌/◌, ◌≤◌, ◌≡◌, refl, Bool, true, false, List, length, take, drop, get_or, leb, Option, Result, Ok, Err}
 use Rattle.std.proofs.Common.{sym, ap, ◌∙◌, inl, inr, arith, ext_get_or, leb-true, leb-false}
 use Rattle.records.specs.declared.Part.{Part}
 use Rattle.records.specs.declared.Refusal.{Refusal}
 use Rattle.row.specs.Rows.{row_words}
 use Rattle.lookup.specs.Lookup.{Looked}
 use Rattle.lookup.specs.Unique.{looked_unique}
-use Rattle.lookup.specs.declared.LookupAnswer.{LookupAnswer}
-use Rattle.lookup_names.specs.declared.NamesAnswer.{NamesAnswer}
-use Rattle.lookup_names.specs.declared.NamesAnswer.TheVariants as answered
 use Rattle.lookup_names.specs.Names.{names_in, name_at, names_allowed, row_plus_one, LookedAs, NameAnswered, Answers, RefusedAs, LookedNames}
 
 module _ (file table : List ℕ) (rows : ℕ) where
   -- the word of a name is that of whatever answer the single lookup may give
-  pub as_single : (name : List ℕ) (word : ℕ) (a : LookupAnswer) → LookedAs file table rows name word → Looked file table rows name a → word ≡ row_plus_one a
+  pub as_single : (name : List ℕ) (word : ℕ) (a : Result (Option ℕ) Refusal) → LookedAs file table rows name word → Looked file table rows name a → word ≡ row_plus_one a
   as_single name word a h l = h.same ∙ ap row_plus_one (looked_unique file table rows name h.answer a h.looked l)
 
   word_unique : (text : List ℕ) (name : Part) (v w : ℕ) → NameAnswered file table rows text name v → NameAnswered file table rows text name w → v ≡ w
@@ -44,9 +41,9 @@ module _ (file table : List ℕ) (rows : ℕ) where
     one_refusal r q (inr h) (inl g) = absurd (omega (arith, h.1, g.1))
     one_refusal r q (inr h) (inr g) = h.0 ∙ sym g.0
 
-    pub looked_names_unique : (a b : List ℕ) (r q : NamesAnswer) → LookedNames file table rows text names lent a r → LookedNames file table rows text names lent b q
+    pub looked_names_unique : (a b : List ℕ) (r q : Result (Unit {0}) Refusal) → LookedNames file table rows text names lent a r → LookedNames file table rows text names lent b q
         → (a ≡ b) × (r ≡ q)
-    looked_names_unique a b answered.Answered answered.Answered h g = (answers_unique (names_in names) a b h.2 g.2, refl)
-    looked_names_unique a b answered.Answered (answered.Refused q) h g = absurd (not_refused q h.0 h.1 g.0)
-    looked_names_unique a b (answered.Refused r) answered.Answered h g = absurd (not_refused r g.0 g.1 h.0)
-    looked_names_unique a b (answered.Refused r) (answered.Refused q) h g = (h.1 ∙ sym g.1, ap answered.Refused (one_refusal r q h.0 g.0))
+    looked_names_unique a b (Ok u) (Ok v) h g = (answers_unique (names_in names) a b h.2 g.2, refl)
+    looked_names_unique a b (Ok u) (Err q) h g = absurd (not_refused q h.0 h.1 g.0)
+    looked_names_unique a b (Err r) (Ok v) h g = absurd (not_refused r g.0 g.1 h.0)
+    looked_names_unique a b (Err r) (Err q) h g = (h.1 ∙ sym g.1, ap Err (one_refusal r q h.0 g.0))

@@ -1,29 +1,15 @@
 // Many names in one go: for each of them the row that the single lookup finds.
 #![tactic(auto)]
 
-ghost use Rattle.std.specs.Prelude.{◌≡◌, length};
-ghost use Rattle.lookup_names.specs.Names.{names_allowed, NameAnswered, LookedNames};
+ghost use Rattle.std.specs.Prelude.{length};
+ghost use Rattle.lookup_names.specs.Names.{NameAnswered, LookedNames};
 
-use lookup::{LookupAnswer, lookup};
+use lookup::lookup;
 use records::Refusal;
-use row::{clear_behind, rows_in};
+use row::rows_in;
 
 // The most names of a set.
 pub const MOST_NAMES: usize = 32;
-
-// Every name has its answer, or the set or the row count is refused.
-#[derive(Drop)]
-pub enum NamesAnswer {
-    Answered,
-    Refused(Refusal),
-}
-
-// The names that a set may have with so many answers lent.
-fn names_allowed(lent: usize) -> usize
-    ensures { result ≡ names_allowed lent }
-{
-    if lent < MOST_NAMES { lent } else { MOST_NAMES }
-}
 
 // The answer of one name, which is a part of the text: its first row plus one, or 0 where no row has
 // it or it leaves the text. The room after the position is tested, so that no sum can wrap.
@@ -45,14 +31,15 @@ fn lookup_name(
         return 0;
     }
     match lookup(file, table, rows, &text[position..position + size]) {
-        LookupAnswer::At(row) => row as u64 + 1,
-        LookupAnswer::Nothing => 0,
-        LookupAnswer::Refused(_) => 0,
+        Ok(Some(row)) => row as u64 + 1,
+        Ok(None) => 0,
+        Err(_) => 0,
     }
 }
 
 // The first of the `rows` rows of the table for each name of a set, in the names' order. The set has
-// position and length in the text for each name; an odd last word is none.
+// position and length in the text for each name; an odd last word is none. Too many names, or a row
+// count that the table has no rows for, are refused, and then no name has an answer.
 pub fn lookup_names(
     file: &[u8],
     table: &[u64],
@@ -60,26 +47,22 @@ pub fn lookup_names(
     text: &[u8],
     names: &[u64],
     answers: &mut [u64],
-) -> NamesAnswer
+) -> Result<(), Refusal>
     ensures { LookedNames file.now table.now rows text.now names.now (length answers.old) answers.new result }
 {
     let count = names.len() / 2;
-    let allowed = names_allowed(answers.len());
-    let held = rows_in(table);
-    clear_behind(answers, 0);
-    if allowed < count {
-        return NamesAnswer::Refused(Refusal::Names);
+    answers.fill(0);
+    if answers.len().min(MOST_NAMES) < count {
+        return Err(Refusal::Names);
     }
-    if held < rows {
-        return NamesAnswer::Refused(Refusal::Table);
+    if rows_in(table) < rows {
+        return Err(Refusal::Table);
     }
-    let mut k = 0;
-    while k < count {
+    for k in 0..count {
         let position = names[2 * k] as usize;
         let size = names[2 * k + 1] as usize;
         let answer = lookup_name(file, table, rows, text, position, size);
         answers[k] = answer;
-        k += 1;
     }
-    NamesAnswer::Answered
+    Ok(())
 }

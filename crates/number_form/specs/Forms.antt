@@ -1,15 +1,12 @@
 -- IV.A.2.d, classes 0 and 1: which forms of a datatype's element are a number. Assumes nothing: these are definitions.
-use Rattle.std.specs.Prelude.{ℕ, ◌-◌, ◌*◌, ◌/◌, ◌%◌, ◌≡◌, Bool, true, not, ◌&&◌, ◌||◌, eqb}
+use Rattle.std.specs.Prelude.{ℕ, ◌-◌, ◌*◌, ◌/◌, ◌%◌, ◌≡◌, Bool, true, not, ◌&&◌, ◌||◌, eqb, Option, Some, None}
 use Rattle.format.specs.Bits.{bit}
 use Rattle.format.specs.Format.{pick}
 use Rattle.records.specs.declared.DataFormat.TheVariants as formats
-use Rattle.records.specs.declared.OptionDataFormat.{OptionDataFormat}
-use Rattle.records.specs.declared.OptionDataFormat.TheVariants as option_formats
 use Rattle.records.specs.declared.DataType.{DataType}
 use Rattle.number_form.specs.declared.NumberForm.{NumberForm}
 use Rattle.number_form.specs.declared.NumberForm.TheVariants as forms
-use Rattle.number_form.specs.declared.OptionForm.{OptionForm}
-use Rattle.number_form.specs.declared.OptionForm.TheVariants as options
+use Rattle.records.specs.declared.DataFormat.{DataFormat}
 
 -- The class bit field. Of both classes bit 0 is the byte order: the highest byte first where it is set. The padding types, bits 1 and 2 and of
 -- floats bit 3, speak of unused bits, and there are none in these forms; they are not tested, nor are bits that have no meaning.
@@ -34,11 +31,11 @@ unfoldable pub whole_size : ℕ → Bool
 whole_size size = eqb size 1 || (eqb size 2 || (eqb size 4 || eqb size 8))
 
 -- fixed-point: all bits of 1, 2, 4 or 8 bytes
-unfoldable pub fixed_form : ℕ → ℕ → ℕ → ℕ → OptionForm
+unfoldable pub fixed_form : ℕ → ℕ → ℕ → ℕ → Option NumberForm
 fixed_form bits size offset precision =
     pick (whole_size size && (eqb offset 0 && eqb precision (8 * size)))
-    (options.Some (pick (is_signed bits) forms.Signed forms.Unsigned))
-    options.None
+    (Some (pick (is_signed bits) forms.Signed forms.Unsigned))
+    None
 
 -- floating-point: all bits of w bytes, the sign in the top one, and a mantissa whose most significant bit is not stored, but implied to be set (2)
 unfoldable pub is_float : ℕ → ℕ → ℕ → ℕ → Bool
@@ -49,19 +46,19 @@ is_float bits size precision w =
     && (eqb (mantissa_normalization bits) 2
     && eqb (sign_location bits) (8 * w - 1))))
 
-unfoldable pub float_form : ℕ → ℕ → ℕ → OptionForm
+unfoldable pub float_form : ℕ → ℕ → ℕ → Option NumberForm
 float_form bits size precision =
-    pick (is_float bits size precision 4) (options.Some forms.Single) (
-    pick (is_float bits size precision 8) (options.Some forms.Double) (
-    options.None))
+    pick (is_float bits size precision 4) (Some forms.Single) (
+    pick (is_float bits size precision 8) (Some forms.Double) (
+    None))
 
 -- by class; a variable-length type has its base type's format, and is of neither class
-abbrev pub form_of : ℕ → ℕ → ℕ → OptionDataFormat → OptionForm
-form_of class bits size option_formats.None = options.None
-form_of class bits size (option_formats.Some (formats.Fixed offset precision)) = pick (eqb class 0) (fixed_form bits size offset precision) options.None
-form_of class bits size (option_formats.Some (formats.Float offset precision xl xs ml ms bias)) = pick (eqb class 1) (float_form bits size precision) options.None
+abbrev pub form_of : ℕ → ℕ → ℕ → Option DataFormat → Option NumberForm
+form_of class bits size None = None
+form_of class bits size (Some (formats.Fixed offset precision)) = pick (eqb class 0) (fixed_form bits size offset precision) None
+form_of class bits size (Some (formats.Float f)) = pick (eqb class 1) (float_form bits size f.bit_precision) None
 
-unfoldable pub number_form : DataType → OptionForm
+unfoldable pub number_form : DataType → Option NumberForm
 number_form d = form_of (d.class_and_version % 16) d.class_bit_field d.size d.data_fmt
 
 -- the sizes that a form has

@@ -1,5 +1,5 @@
 -- IV.A.2.m, the attribute message, versions 1 and 3. Assumes nothing: these are definitions.
-use Rattle.std.specs.Prelude.{ℕ, ◌-◌, ◌*◌, ◌&&◌, ◌||◌, eqb, leb, ltb}
+use Rattle.std.specs.Prelude.{ℕ, ◌-◌, ◌*◌, ◌&&◌, ◌||◌, eqb, leb, ltb, Option, Some, None}
 use Rattle.format.specs.Bytes.{to_multiple_of8}
 use Rattle.format.specs.Format.{Format, done, number, skip, text, here, attempt, bind, check, pick, nothing}
 use Rattle.records.specs.Elements.{elements_of}
@@ -9,8 +9,7 @@ use Rattle.records.specs.declared.Value.TheVariants as values
 use Rattle.records.specs.declared.Attribute.{Attribute}
 use Rattle.records.specs.declared.DataType.{DataType}
 use Rattle.parser.specs.declared.State.{State}
-use Rattle.number_form.specs.declared.OptionForm.{OptionForm}
-use Rattle.number_form.specs.declared.OptionForm.TheVariants as options
+use Rattle.number_form.specs.declared.NumberForm.{NumberForm}
 use Rattle.number_form.specs.Forms.{number_form}
 use Rattle.element_number.specs.Values.{number_value}
 use Rattle.ohdr_attribute.specs.declared.AttributeFields.{AttributeFields}
@@ -38,9 +37,9 @@ unfoldable pub other_value : ℕ → Format Value
 other_value n = pick (leb 1 n && leb n 1048576) (skip n (done values.None)) (done values.None)
 
 -- one element is a number where its form has one; in every other form its bytes are passed as those of many are
-abbrev pub element_value : OptionForm → DataType → Format Value
-element_value options.None t = other_value t.size
-element_value (options.Some form) t = bind (number_value form t.class_bit_field t.size) (λ n. done (values.Number n))
+abbrev pub element_value : Option NumberForm → DataType → Format Value
+element_value None t = other_value t.size
+element_value (Some form) t = bind (number_value form t.class_bit_field t.size) (λ n. done (values.Number n))
 
 -- the value, by the type's class and size and the number of elements
 unfoldable pub value : DataType → ℕ → Format Value

@@ -1,4 +1,3 @@
 pub mod Attributes
-pub mod Answers
 pub mod Facts
 pub mod Without

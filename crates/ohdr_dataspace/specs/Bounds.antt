@@ -1,6 +1,6 @@
 -- What a dataspace that stands is bounded by: at most four sizes, each at most 1,000,000; and its record is true. Assumes nothing.
 use Prim.Native.Nat.{ℕ, zero, suc, ◌+◌, ◌≤◌, ◌<◌}
-use Rattle.std.specs.Prelude.{◌≡◌, Bool, ◌&&◌, ◌||◌, not, List, [], ◌∷◌, replicate, set, get_or}
+use Rattle.std.specs.Prelude.{◌≡◌, Bool, ◌&&◌, ◌||◌, not, List, [], ◌∷◌, replicate, set, get_or, Option, Some, None}
 use Rattle.std.proofs.Math.Path.{refl}
 use Rattle.std.proofs.Common.{◌∙◌, arith}
 use Rattle.std.proofs.Math.Bool.{true, false}
@@ -10,8 +10,6 @@ use Rattle.format.specs.Bits.{bit}
 use Rattle.format.specs.Bytes.{le, all_ones}
 use Rattle.format.specs.Format.{done, refuse, pick, Stands}
 use Rattle.records.specs.Elements.{TrueSpace}
-use Rattle.records.specs.declared.OptionU8.{OptionU8}
-use Rattle.records.specs.declared.OptionU8.TheVariants as options8
 use Rattle.records.specs.declared.Dimensions.{Dimensions}
 use Rattle.records.specs.declared.DataSpace.{DataSpace}
 use Rattle.parser.specs.declared.State.{State}
@@ -67,7 +65,7 @@ module _ (file : List ℕ) (w : ℕ) where
       let b = stands_bind file (dimensions_from n w false 0 (replicate 4 0)) (λ sizes. done {A = Dimensions} (record { sizes = sizes; count = n })) p q d h in
       rw (← b.3.1) (refl, sizes_small n 0 (replicate 4 0) p b.0 b.1 b.2 (small_zeros 4))
 
-  sizes_bounded : (n flags : ℕ) (kind : OptionU8) (p q : ℕ) (d : DataSpace) → n ≤ 4 → Stands file (data_space_sizes w n flags kind) p q d → Bounded d
+  sizes_bounded : (n flags : ℕ) (kind : Option ℕ) (p q : ℕ) (d : DataSpace) → n ≤ 4 → Stands file (data_space_sizes w n flags kind) p q d → Bounded d
   unfolding data_space_sizes
   sizes_bounded n flags kind p q d few r =
       let a = stands_bind file (dimensions n w false) _ p q d r in
@@ -83,14 +81,14 @@ module _ (file : List ℕ) (w : ℕ) where
       let flags = le file (p + 1) 1 in
       let few = stands_check file (leb n 4) 9 _ (p + 1) q d h.1 in
       let clear = stands_check file (not (bit flags 1)) 9 _ (p + 1 + 1) q d few.1.1 in
-      sizes_bounded n flags options8.None (p + 1 + 1 + 1 + 4) q d (leb-true n 4 few.0) clear.1.1.1
+      sizes_bounded n flags None (p + 1 + 1 + 1 + 4) q d (leb-true n 4 few.0) clear.1.1.1
 
   table2_bounded : (p q : ℕ) (d : DataSpace) → Stands file (data_space2 w) p q d → Bounded d
   unfolding data_space2 data_space_sizes
   table2_bounded p q d h =
       let n = le file p 1 in
       let few = stands_check file (leb n 4) 9 _ (p + 1) q d h.1 in
-      sizes_bounded n (le file (p + 1) 1) (options8.Some (le file (p + 1 + 1) 1)) (p + 1 + 1 + 1) q d (leb-true n 4 few.0) few.1.1.1
+      sizes_bounded n (le file (p + 1) 1) (Some (le file (p + 1 + 1) 1)) (p + 1 + 1 + 1) q d (leb-true n 4 few.0) few.1.1.1
 
 pub bounded : (file : List ℕ) (s : State) (p q : ℕ) (d : DataSpace) → Stands file (data_space s) p q d → Bounded d
 unfolding data_space

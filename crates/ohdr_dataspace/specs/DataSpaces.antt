@@ -1,11 +1,10 @@
 -- IV.A.2.b, the dataspace message: a table for version 1, and one for version 2. Assumes nothing: these are definitions.
-use Rattle.std.specs.Prelude.{ℕ, zero, suc, ◌+◌, Bool, true, false, ◌&&◌, ◌||◌, not, List, replicate, set, eqb, leb}
+use Rattle.std.specs.Prelude.{ℕ, zero, suc, ◌+◌, Bool, true, false, ◌&&◌, ◌||◌, not, List, replicate, set, eqb, leb, Some, None}
 use Rattle.format.specs.Bits.{bit}
 use Rattle.format.specs.Bytes.{all_ones}
 use Rattle.format.specs.Format.{Format, done, refuse, number, skip, bind, check, pick}
 use Rattle.records.specs.Defaults.{no_dimensions}
 use Rattle.records.specs.Elements.{elements_by, count_of}
-use Rattle.records.specs.declared.OptionU8.TheVariants as options8
 use Rattle.records.specs.declared.Dimensions.{Dimensions}
 use Rattle.records.specs.declared.DataSpace.{DataSpace}
 use Rattle.parser.specs.declared.State.{State}
@@ -46,10 +45,10 @@ data_space1 size_of_lengths =
     done {A = DataSpace} (record {
       dimensionality = dimensionality;
       flags = flags;
-      kind = options8.None;
+      kind = None;
       dimension_size = dimension_size;
       dimension_max_size = dimension_maximum_size;
-      elements = count_of (elements_by options8.None dimension_size);
+      elements = count_of (elements_by None dimension_size);
     })))))))))
 
 -- Layout: Dataspace Message - Version 2, after its Version. Bit 0 of the flags: maximum sizes. Type 2 is a null dataspace; no type is refused.
@@ -64,10 +63,10 @@ data_space2 size_of_lengths =
     done {A = DataSpace} (record {
       dimensionality = dimensionality;
       flags = flags;
-      kind = options8.Some type;
+      kind = Some type;
       dimension_size = dimension_size;
       dimension_max_size = dimension_maximum_size;
-      elements = count_of (elements_by (options8.Some type) dimension_size);
+      elements = count_of (elements_by (Some type) dimension_size);
     })))))))
 
 -- the version, and the table of that version

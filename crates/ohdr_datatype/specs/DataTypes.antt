@@ -1,15 +1,12 @@
 -- IV.A.2.d, the datatype message, versions 1 and 3. Assumes nothing: these are definitions.
-use Rattle.std.specs.Prelude.{ℕ, zero, suc, ◌/◌, ◌%◌, Bool, ◌&&◌, ◌||◌, eqb, ltb}
+use Rattle.std.specs.Prelude.{ℕ, zero, suc, ◌/◌, ◌%◌, Bool, ◌&&◌, ◌||◌, eqb, ltb, Option, Some, None}
 use Rattle.format.specs.Format.{Format, done, refuse, number, bind, times, check, pick, nothing}
-use Rattle.records.specs.declared.OptionU32.{OptionU32}
-use Rattle.records.specs.declared.OptionU32.TheVariants as options32
 use Rattle.records.specs.declared.DataFormat.TheVariants as formats
-use Rattle.records.specs.declared.OptionDataFormat.{OptionDataFormat}
-use Rattle.records.specs.declared.OptionDataFormat.TheVariants as option_formats
 use Rattle.records.specs.declared.DataType.{DataType}
 use Rattle.ohdr_member.specs.Members.{member_fields}
 use Rattle.ohdr_datatype.specs.declared.DataTypeHeader.{DataTypeHeader}
-use Rattle.ohdr_datatype.specs.declared.FloatProperties.{FloatProperties}
+use Rattle.records.specs.declared.FloatProperties.{FloatProperties}
+use Rattle.records.specs.declared.DataFormat.{DataFormat}
 
 -- the class stands in the low four bits of the first byte, the version in the high four
 abbrev pub class_of : ℕ → ℕ
@@ -40,11 +37,11 @@ data_type_header =
     done {A = DataTypeHeader} (record { class_and_version = class_and_version; class_bit_field = class_bit_field; size = size }))))))
 
 -- properties of a fixed-point number
-unfoldable pub fixed_properties : Format OptionDataFormat
+unfoldable pub fixed_properties : Format (Option DataFormat)
 fixed_properties =
     number 2 (λ bit_offset.
     number 2 (λ bit_precision.
-    done (option_formats.Some (formats.Fixed bit_offset bit_precision))))
+    done (Some (formats.Fixed bit_offset bit_precision))))
 
 -- properties of a floating-point number
 unfoldable pub float_properties : Format FloatProperties
@@ -82,28 +79,26 @@ unfoldable pub ieee : FloatProperties → Bool
 ieee f = float_is f 32 23 8 23 127 || float_is f 64 52 11 52 1023
 
 -- the two IEEE formats alone, tested after all twelve bytes
-unfoldable pub float_format : Format OptionDataFormat
+unfoldable pub float_format : Format (Option DataFormat)
 float_format =
     bind float_properties (λ f.
     check (ieee f) 11 (
-    done (option_formats.Some (formats.Float
-    f.bit_offset f.bit_precision f.exponent_location f.exponent_size
-    f.mantissa_location f.mantissa_size f.exponent_bias))))
+    done (Some (formats.Float f))))
 
 -- a member, where T is the format of its type
 unfoldable pub member : ℕ → ℕ → Format DataType → Format (Unit {0})
 member version size T = bind (member_fields version size) (λ _. bind T (λ _. nothing))
 
 -- no format of a number
-unfoldable pub plain : Format OptionDataFormat
-plain = done option_formats.None
+unfoldable pub plain : Format (Option DataFormat)
+plain = done None
 
 -- the format of a variable-length type is that of its base type
-unfoldable pub list_properties : Format DataType → Format OptionDataFormat
+unfoldable pub list_properties : Format DataType → Format (Option DataFormat)
 list_properties T = bind T (λ base. done base.data_fmt)
 
 -- the properties by class, where T is the format of the types inside; a compound has as many members as the low 16 class bits say
-unfoldable pub properties : DataTypeHeader → Format DataType → Format OptionDataFormat
+unfoldable pub properties : DataTypeHeader → Format DataType → Format (Option DataFormat)
 properties h T =
     let class = class_of h.class_and_version in
     pick (eqb class 0) fixed_properties (
@@ -114,8 +109,8 @@ properties h T =
     refuse 11)))))
 
 -- a variable-length type's `list_size` is its own size; other classes have none
-abbrev pub list_size : DataTypeHeader → OptionU32
-list_size h = pick (eqb (class_of h.class_and_version) 9) (options32.Some h.size) options32.None
+abbrev pub list_size : DataTypeHeader → Option ℕ
+list_size h = pick (eqb (class_of h.class_and_version) 9) (Some h.size) None
 
 -- a datatype, where T is the format of the types inside
 unfoldable pub type_layer : Format DataType → Format DataType

@@ -1,23 +1,15 @@
 -- What the answers of the readers mean. Assumes nothing: these are definitions.
-use Rattle.std.specs.Prelude.{ℕ}
+use Rattle.std.specs.Prelude.{ℕ, Result, Ok, Err}
 use Rattle.format.specs.Format.{Out, found, refused}
 use Rattle.records.specs.Refusals.{refusal_number}
+use Rattle.records.specs.declared.Refusal.{Refusal}
 use Rattle.records.specs.Numbers.{value_case, value_bits}
 use Rattle.grammar.specs.Message.{Kept, Held, name_of, value_of, part_of, row_of}
 use Rattle.grammar.specs.Message as messages
 use Rattle.row.specs.declared.Row.{Row}
-use Rattle.ohdr_entry.specs.declared.Prefix.{Prefix}
-use Rattle.ohdr_entry.specs.declared.PrefixRead.{PrefixRead}
-use Rattle.ohdr_entry.specs.declared.PrefixRead.TheVariants as prefixes
 use Rattle.ohdr_entry.specs.declared.Figures.{Figures}
-use Rattle.ohdr_entry.specs.declared.BodyRead.{BodyRead}
-use Rattle.ohdr_entry.specs.declared.BodyRead.TheVariants as bodies
-use Rattle.ohdr_entry.specs.declared.EntryRead.{EntryRead}
-use Rattle.ohdr_entry.specs.declared.EntryRead.TheVariants as entries
-
-abbrev pub prefix_out : PrefixRead → Out Prefix
-prefix_out (prefixes.Read v q) = found v q
-prefix_out (prefixes.Refused r) = refused (refusal_number r)
+use Rattle.ohdr_entry.specs.declared.Entry.{Entry}
+use Rattle.ohdr_entry.specs.declared.Entry.TheVariants as entries
 
 -- a position alone
 abbrev pub position_of : {A : Type 0} → Out A → Out (Unit {0})
@@ -28,10 +20,6 @@ position_of (refused n) = refused n
 abbrev pub figures_of : Out Kept → Out Figures
 figures_of (found k q) = found (record { name = name_of k; part = part_of k; number_case = value_case (value_of k); number_bits = value_bits (value_of k) }) q
 figures_of (refused n) = refused n
-
-abbrev pub body_out : BodyRead → Out Figures
-body_out (bodies.Read f q) = found f q
-body_out (bodies.Refused r) = refused (refusal_number r)
 
 -- what of an entry goes on: a message's row, or where a continuation leads
 pub data Seen : Type 0 where
@@ -46,7 +34,8 @@ abbrev pub seen : Out Held → Out Seen
 seen (found h q) = found (seen_in h) q
 seen (refused n) = refused n
 
-abbrev pub entry_out : EntryRead → Out Seen
-entry_out (entries.Message r q) = found (row r) q
-entry_out (entries.Continuation c q) = found (continuation c.offset c.length) q
-entry_out (entries.Refused r) = refused (refusal_number r)
+-- an entry that was read, by what of it goes on, or a refusal by its number
+abbrev pub entry_out : Result (Entry × ℕ) Refusal → Out Seen
+entry_out (Ok (entries.Message r, q)) = found (row r) q
+entry_out (Ok (entries.Continuation c, q)) = found (continuation c.offset c.length) q
+entry_out (Err r) = refused (refusal_number r)

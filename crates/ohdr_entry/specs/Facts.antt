@@ -1,5 +1,5 @@
 -- What the proofs of the readers cite. Assumes nothing.
-use Rattle.std.specs.Prelude.{ℕ, ◌+◌, ◌-◌, ◌≤◌, ◌<◌, ◌≡◌, Bool, true, false, List, eqb, ltb, leb}
+use Rattle.std.specs.Prelude.{ℕ, ◌+◌, ◌-◌, ◌≤◌, ◌<◌, ◌≡◌, Bool, true, false, List, eqb, ltb, leb, None}
 use Rattle.std.proofs.Math.Path.{refl}
 use Rattle.std.proofs.Common.{sym, ◌∙◌, arith, ltb-true, le-leb}
 use Rattle.std.proofs.lemmas.Bool.{lt-leb}
@@ -9,19 +9,14 @@ use Rattle.format.specs.Format.{Format, done, skip, here, Out, found, refused, r
 use Rattle.format.specs.Laws.{never}
 use Rattle.format.specs.Standing.{read_forward}
 use Rattle.format.specs.Steps.{after, read_bind, read_done, read_here, read_skip}
-use Rattle.records.specs.declared.OptionPart.TheVariants as parts
 use Rattle.records.specs.declared.Value.TheVariants as values
 use Rattle.grammar.specs.Message.{Kept, Held, name_of, value_of, part_of}
 use Rattle.grammar.specs.Message as messages
-use Rattle.helpers.specs.declared.Place.{Place}
-use Rattle.helpers.specs.declared.Place.TheVariants as places
-use Rattle.helpers.specs.Answers.{place_out}
 use Rattle.parser.specs.declared.State.{State}
 use Rattle.ohdr_info.specs.Info.{link_info, group_info, attribute_info}
 use Rattle.ohdr_storage.specs.Storage.{fill_old, fill, filter_pipeline}
 use Rattle.ohdr_datatype.specs.DataTypes.{data_type, type_levels}
 use Rattle.ohdr_dataspace.specs.DataSpaces.{data_space}
-use Rattle.ohdr_dataspace.specs.Answers.{placed}
 use Rattle.ohdr_entry.specs.declared.Prefix.{Prefix}
 use Rattle.ohdr_entry.specs.declared.Figures.{Figures}
 use Rattle.ohdr_entry.specs.Entries.{plain_body, body, message_held, closed}
@@ -40,19 +35,6 @@ ends_past e o l h = lt-leb (o + l) e (omega arith)
 pub ends_inside : (end offset length : ℕ) → 8 ≤ length → length ≤ end - offset → leb (offset + length) end ≡ true
 ends_inside e o l f h = le-leb (o + l) e (omega arith)
 
--- the rest of an entry's size after its fields, by the test of the code
-module _ (b size used : ℕ) where
-  pub rest_none : b ≤ used → size ≤ used - b → b + size - used ≡ 0
-  rest_none h k = omega arith
-
-  pub rest_some : b ≤ used → used - b < size → b + size - used ≡ size - (used - b)
-  rest_some h k = omega arith
-
--- the place that stands beside a value is where its reading ends
-pub placed_position : {A : Type 0} (r : Place) (v : A) → place_out r ≡ position_of (placed r v)
-placed_position (places.At q) v = refl
-placed_position (places.Refused r) v = refl
-
 -- a position alone is all that a reading with no value has
 pub position_self : (r : Out (Unit {0})) → position_of r ≡ r
 position_self (found u q) = refl
@@ -60,7 +42,7 @@ position_self (refused n) = refl
 
 -- figures with no name, part or number
 abbrev pub bare : Out (Unit {0}) → Out Figures
-bare (found u q) = found (record { name = parts.None; part = parts.None; number_case = 0; number_bits = 0 }) q
+bare (found u q) = found (record { name = None; part = None; number_case = 0; number_bits = 0 }) q
 bare (refused n) = refused n
 
 -- the row of a message with this prefix, its body at b
@@ -91,7 +73,7 @@ module _ (s : List ℕ) where
   abbrev Bare : Format Kept → Type 0
   Bare F = (p : ℕ) → figures_of (read s F p) ≡ bare (position_of (read s F p))
 
-  bare_done : (k : Kept) → name_of k ≡ parts.None → part_of k ≡ parts.None → value_of k ≡ values.None → Bare (done k)
+  bare_done : (k : Kept) → name_of k ≡ None → part_of k ≡ None → value_of k ≡ values.None → Bare (done k)
   bare_done k e d v p = rw (read_done s k p, e, d, v)
 
   bare_bind : {A : Type 0} (F : Format A) (con : A → Kept) → ((a : A) → Bare (done (con a))) → Bare (bind F (λ a. done (con a)))

@@ -1,16 +1,10 @@
 -- The messages on links and attributes, by the sections of the HDF5 File Format Specification.
 -- Assumes nothing: these are definitions.
-use Rattle.std.specs.Prelude.{ℕ, Bool, eqb}
+use Rattle.std.specs.Prelude.{ℕ, Bool, eqb, Option, Some, None}
 use Rattle.format.specs.Bits.{bit}
 use Rattle.format.specs.Format.{Format, done, number, bind, check, pick}
 use Rattle.records.specs.declared.Address.{Address}
 use Rattle.records.specs.declared.Address.TheVariants as addresses
-use Rattle.records.specs.declared.OptionAddress.{OptionAddress}
-use Rattle.records.specs.declared.OptionAddress.TheVariants as option_addresses
-use Rattle.records.specs.declared.OptionU16.{OptionU16}
-use Rattle.records.specs.declared.OptionU16.TheVariants as options16
-use Rattle.records.specs.declared.OptionU64.{OptionU64}
-use Rattle.records.specs.declared.OptionU64.TheVariants as options64
 use Rattle.records.specs.declared.LinkInfo.{LinkInfo}
 use Rattle.records.specs.declared.GroupInfo.{GroupInfo}
 use Rattle.records.specs.declared.AttributeInfo.{AttributeInfo}
@@ -26,14 +20,14 @@ unfoldable pub cond_address : Bool → ℕ → Format Address
 cond_address present w = pick present (address w) (done (addresses.Number 0))
 
 -- a field that is there only where it is present
-abbrev pub some16 : Bool → ℕ → OptionU16
-some16 present v = pick present (options16.Some v) options16.None
+abbrev pub some16 : Bool → ℕ → Option ℕ
+some16 present v = pick present (Some v) None
 
-abbrev pub some64 : Bool → ℕ → OptionU64
-some64 present v = pick present (options64.Some v) options64.None
+abbrev pub some64 : Bool → ℕ → Option ℕ
+some64 present v = pick present (Some v) None
 
-abbrev pub some_address : Bool → Address → OptionAddress
-some_address present a = pick present (option_addresses.Some a) option_addresses.None
+abbrev pub some_address : Bool → Address → Option Address
+some_address present a = pick present (Some a) None
 
 -- IV.A.2.c, link info: flag bit 0 brings the maximum creation index, bit 1 the B-tree of the creation order
 unfoldable pub link_info : State → Format LinkInfo

@@ -1,3 +1,2 @@
 pub mod Info
-pub mod Answers
 pub mod Facts

@@ -1,9 +1,8 @@
 -- The data layout message, by the section of the HDF5 File Format Specification. Assumes nothing: these are definitions.
-use Rattle.std.specs.Prelude.{ℕ, eqb, ltb}
+use Rattle.std.specs.Prelude.{ℕ, eqb, ltb, Some, None}
 use Rattle.format.specs.Format.{Format, done, refuse, number, skip, bytes, there, bind, check, pick, nothing}
 use Rattle.records.specs.declared.Address.{Address}
 use Rattle.records.specs.declared.Address.TheVariants as addresses
-use Rattle.records.specs.declared.OptionAddress.TheVariants as option_addresses
 use Rattle.records.specs.declared.Part.{Part}
 use Rattle.records.specs.declared.DataLayout.{DataLayout}
 use Rattle.records.specs.Defaults.{empty_part}
@@ -17,7 +16,7 @@ contiguous_part address size = pick (eqb size 0) empty_part (record { position =
 
 -- IV.A.2.i, compact storage: its raw data are passed over
 unfoldable pub compact : Format DataLayout
-compact = number 2 (λ size. skip size (done {A = DataLayout} (record { address = option_addresses.None; «data» = empty_part })))
+compact = number 2 (λ size. skip size (done {A = DataLayout} (record { address = None; «data» = empty_part })))
 
 -- the raw data are bytes of the file where the address lies between 0 and end-of-file
 unfoldable pub data_from : State → ℕ → ℕ → Format Part
@@ -37,7 +36,7 @@ contiguous s =
     number s.size_of_lengths (λ size.
     check (ltb size 268435456) 13 (
     bind (raw_data_lem s size address) (λ raw_data.
-    done {A = DataLayout} (record { address = option_addresses.Some address; «data» = raw_data })))))
+    done {A = DataLayout} (record { address = Some address; «data» = raw_data })))))
 
 -- IV.A.2.i, data layout, version 3: compact (0) and contiguous (1) storage; chunked (2) is refused by its own number
 unfoldable pub data_layout : State → Format DataLayout

@@ -1,3 +1,2 @@
 pub mod DataLayouts
-pub mod Answers
 pub mod Facts

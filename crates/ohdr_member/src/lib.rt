@@ -2,63 +2,42 @@
 #![tactic(auto)]
 
 ghost use Rattle.std.specs.Prelude.{◌≡◌};
-ghost use Rattle.format.specs.Format.{read};
 ghost use Rattle.helpers.specs.Answers.{place_out};
+ghost use Rattle.format.specs.Format.{read};
 ghost use Rattle.ohdr_member.specs.Members.{member3, member1, member_fields};
 
-use helpers::{
-    Place, ReadLength, ReadU8, ReadU32, Taken, le_u8, le_u32, take, take_till, to_multiple_of_8,
-};
+use helpers::{le_u8, le_u32, take, take_till, to_multiple_of_8};
 use records::Refusal;
 
 // A member of a version 3 compound, before its type.
-fn member_3(file: &[u8], at: usize, size: u32) -> Place
+fn member_3(file: &[u8], at: usize, size: u32) -> Result<usize, Refusal>
     ensures { place_out result ≡ read file.now (member3 size) at }
 {
-    let ReadLength::Value(_, closing_at) = take_till(file, at, 4095) else {
-        return Place::Refused(Refusal::Short);
-    };
-    let Taken::At(offset_at) = take(file, closing_at, 1) else {
-        return Place::Refused(Refusal::Short);
-    };
+    let (_, closing_at) = take_till(file, at, 4095)?;
+    let offset_at = take(file, closing_at, 1)?;
     if 0 < size {
-        let ReadU8::Value(_, next) = le_u8(file, offset_at) else {
-            return Place::Refused(Refusal::Short);
-        };
-        return Place::At(next);
+        let (_, next) = le_u8(file, offset_at)?;
+        return Ok(next);
     }
-    Place::At(offset_at)
+    Ok(offset_at)
 }
 
 // A member of a version 1 compound, before its type.
-fn member_1(file: &[u8], at: usize) -> Place
+fn member_1(file: &[u8], at: usize) -> Result<usize, Refusal>
     ensures { place_out result ≡ read file.now member1 at }
 {
-    let ReadLength::Value(length, closing_at) = take_till(file, at, 255) else {
-        return Place::Refused(Refusal::Short);
-    };
-    let Taken::At(padding_at) = take(file, closing_at, 1) else {
-        return Place::Refused(Refusal::Short);
-    };
-    let Taken::At(offset_at) = take(file, padding_at, to_multiple_of_8(length % 8 + 1)) else {
-        return Place::Refused(Refusal::Short);
-    };
-    let ReadU32::Value(_, dimensionality_at) = le_u32(file, offset_at) else {
-        return Place::Refused(Refusal::Short);
-    };
-    let ReadU8::Value(dimensionality, unused_at) = le_u8(file, dimensionality_at) else {
-        return Place::Refused(Refusal::Short);
-    };
+    let (length, closing_at) = take_till(file, at, 255)?;
+    let padding_at = take(file, closing_at, 1)?;
+    let offset_at = take(file, padding_at, to_multiple_of_8(length % 8 + 1))?;
+    let (_, dimensionality_at) = le_u32(file, offset_at)?;
+    let (dimensionality, unused_at) = le_u8(file, dimensionality_at)?;
     if dimensionality != 0 {
-        return Place::Refused(Refusal::DataType);
+        return Err(Refusal::DataType);
     }
-    let Taken::At(next) = take(file, unused_at, 27) else {
-        return Place::Refused(Refusal::Short);
-    };
-    Place::At(next)
+    take(file, unused_at, 27)
 }
 
-pub fn member_fields(file: &[u8], at: usize, version: u8, size: u32) -> Place
+pub fn member_fields(file: &[u8], at: usize, version: u8, size: u32) -> Result<usize, Refusal>
     ensures { place_out result ≡ read file.now (member_fields version size) at }
 {
     if version == 3 {

@@ -3,136 +3,95 @@
 #![tactic(auto)]
 
 ghost use Rattle.std.specs.Prelude.{◌≡◌};
-ghost use Rattle.format.specs.Format.{read, times, nothing};
 ghost use Rattle.helpers.specs.Answers.{place_out};
+ghost use Rattle.format.specs.Format.{read, times, nothing};
 ghost use Rattle.ohdr_storage.specs.Storage.{fill_old, fill12, fill3, fill, filter1, filter2, filter_of, reserved, filter_pipeline};
 
-use helpers::{
-    Place, ReadU8, ReadU16, ReadU32, ReadU64, Taken, le_u8, le_u16, le_u32, take, varint,
-};
+use helpers::{le_u8, le_u16, le_u32, take, varint};
 use records::Refusal;
 
 // A size and that many bytes, without a test of either.
-pub fn message_data_fill_old(file: &[u8], at: usize) -> Place
+pub fn message_data_fill_old(file: &[u8], at: usize) -> Result<usize, Refusal>
     ensures { place_out result ≡ read file.now fill_old at }
 {
-    let ReadU32::Value(size, value_at) = le_u32(file, at) else {
-        return Place::Refused(Refusal::Short);
-    };
-    let Taken::At(next) = take(file, value_at, size as usize) else {
-        return Place::Refused(Refusal::Short);
-    };
-    Place::At(next)
+    let (size, value_at) = le_u32(file, at)?;
+    take(file, value_at, size as usize)
 }
 
 // Versions 1 and 2, after the version.
-fn fill_12(file: &[u8], at: usize) -> Place
+fn fill_12(file: &[u8], at: usize) -> Result<usize, Refusal>
     ensures { place_out result ≡ read file.now fill12 at }
 {
-    let ReadU8::Value(allocation, write_at) = le_u8(file, at) else {
-        return Place::Refused(Refusal::Short);
-    };
+    let (allocation, write_at) = le_u8(file, at)?;
     if allocation != 2 && allocation != 3 {
-        return Place::Refused(Refusal::DataFill);
+        return Err(Refusal::DataFill);
     }
-    let ReadU8::Value(write, defined_at) = le_u8(file, write_at) else {
-        return Place::Refused(Refusal::Short);
-    };
+    let (write, defined_at) = le_u8(file, write_at)?;
     if write != 2 {
-        return Place::Refused(Refusal::DataFill);
+        return Err(Refusal::DataFill);
     }
-    let ReadU8::Value(defined, size_at) = le_u8(file, defined_at) else {
-        return Place::Refused(Refusal::Short);
-    };
+    let (defined, size_at) = le_u8(file, defined_at)?;
     if 1 < defined {
-        return Place::Refused(Refusal::DataFill);
+        return Err(Refusal::DataFill);
     }
     if defined == 1 {
         return message_data_fill_old(file, size_at);
     }
-    Place::At(size_at)
+    Ok(size_at)
 }
 
 // Version 3, after the version: flag bit 5 brings the fill value.
-fn fill_3(file: &[u8], at: usize) -> Place
+fn fill_3(file: &[u8], at: usize) -> Result<usize, Refusal>
     ensures { place_out result ≡ read file.now fill3 at }
 {
-    let ReadU8::Value(flags, size_at) = le_u8(file, at) else {
-        return Place::Refused(Refusal::Short);
-    };
+    let (flags, size_at) = le_u8(file, at)?;
     if flags & 32 != 0 {
         return message_data_fill_old(file, size_at);
     }
-    Place::At(size_at)
+    Ok(size_at)
 }
 
-pub fn message_data_fill(file: &[u8], at: usize) -> Place
+pub fn message_data_fill(file: &[u8], at: usize) -> Result<usize, Refusal>
     ensures { place_out result ≡ read file.now fill at }
 {
-    let ReadU8::Value(version, fields_at) = le_u8(file, at) else {
-        return Place::Refused(Refusal::Short);
-    };
+    let (version, fields_at) = le_u8(file, at)?;
     match version {
         1 | 2 => fill_12(file, fields_at),
         3 => fill_3(file, fields_at),
-        _ => Place::Refused(Refusal::DataFill),
+        _ => Err(Refusal::DataFill),
     }
 }
 
 // A filter of version 1. A name's length is rounded up to 8 in 16 bits, as a release build of the Rust does.
-fn filter_1(file: &[u8], at: usize) -> Place
+fn filter_1(file: &[u8], at: usize) -> Result<usize, Refusal>
     ensures { place_out result ≡ read file.now filter1 at }
 {
-    let ReadU16::Value(_, length_at) = le_u16(file, at) else {
-        return Place::Refused(Refusal::Short);
-    };
-    let ReadU16::Value(name_length, flags_at) = le_u16(file, length_at) else {
-        return Place::Refused(Refusal::Short);
-    };
-    let ReadU16::Value(_, values_at) = le_u16(file, flags_at) else {
-        return Place::Refused(Refusal::Short);
-    };
-    let ReadU16::Value(values, name_at) = le_u16(file, values_at) else {
-        return Place::Refused(Refusal::Short);
-    };
+    let (_, length_at) = le_u16(file, at)?;
+    let (name_length, flags_at) = le_u16(file, length_at)?;
+    let (_, values_at) = le_u16(file, flags_at)?;
+    let (values, name_at) = le_u16(file, values_at)?;
     if 4096 < values {
-        return Place::Refused(Refusal::FilterPipeline);
+        return Err(Refusal::FilterPipeline);
     }
     let padded = (name_length as usize + 7) / 8 * 8 % 65536;
-    let Taken::At(data_at) = take(file, name_at, padded) else {
-        return Place::Refused(Refusal::Short);
-    };
-    let Taken::At(padding_at) = take(file, data_at, 4 * (values as usize)) else {
-        return Place::Refused(Refusal::Short);
-    };
-    let Taken::At(next) = take(file, padding_at, 4 * (values as usize % 2)) else {
-        return Place::Refused(Refusal::Short);
-    };
-    Place::At(next)
+    let data_at = take(file, name_at, padded)?;
+    let padding_at = take(file, data_at, 4 * (values as usize))?;
+    take(file, padding_at, 4 * (values as usize % 2))
 }
 
-fn filter_2(file: &[u8], at: usize) -> Place
+fn filter_2(file: &[u8], at: usize) -> Result<usize, Refusal>
     ensures { place_out result ≡ read file.now filter2 at }
 {
-    let ReadU16::Value(_, flags_at) = le_u16(file, at) else {
-        return Place::Refused(Refusal::Short);
-    };
-    let ReadU16::Value(_, values_at) = le_u16(file, flags_at) else {
-        return Place::Refused(Refusal::Short);
-    };
-    let ReadU16::Value(values, data_at) = le_u16(file, values_at) else {
-        return Place::Refused(Refusal::Short);
-    };
+    let (_, flags_at) = le_u16(file, at)?;
+    let (_, values_at) = le_u16(file, flags_at)?;
+    let (values, data_at) = le_u16(file, values_at)?;
     if 4096 < values {
-        return Place::Refused(Refusal::FilterPipeline);
+        return Err(Refusal::FilterPipeline);
     }
-    let Taken::At(next) = take(file, data_at, 4 * (values as usize)) else {
-        return Place::Refused(Refusal::Short);
-    };
-    Place::At(next)
+    take(file, data_at, 4 * (values as usize))
 }
 
-fn filter(file: &[u8], at: usize, version: u8) -> Place
+fn filter(file: &[u8], at: usize, version: u8) -> Result<usize, Refusal>
     ensures { place_out result ≡ read file.now (filter_of version) at }
 {
     if version == 1 {
@@ -143,58 +102,41 @@ fn filter(file: &[u8], at: usize, version: u8) -> Place
 }
 
 // `count` filters, one after another.
-fn all_filters(file: &[u8], at: usize, count: u8, version: u8) -> Place
+fn all_filters(file: &[u8], at: usize, count: u8, version: u8) -> Result<usize, Refusal>
     ensures { place_out result ≡ read file.now (times count (filter_of version) nothing) at }
 {
     let mut place = at;
-    let mut left = count;
-    while 0 < left {
-        match filter(file, place, version) {
-            Place::Refused(r) => {
-                return Place::Refused(r);
-            }
-            Place::At(next) => {
-                place = next;
-            }
-        }
-        left = left - 1;
+    for _ in 0..count {
+        place = filter(file, place, version)?;
     }
-    Place::At(place)
+    Ok(place)
 }
 
 // The six reserved bytes of version 1 must be zero.
-fn pipeline_reserved(file: &[u8], at: usize, version: u8) -> Place
+fn pipeline_reserved(file: &[u8], at: usize, version: u8) -> Result<usize, Refusal>
     ensures { place_out result ≡ read file.now (reserved version) at }
 {
     if version != 1 {
-        return Place::At(at);
+        return Ok(at);
     }
-    let ReadU64::Value(value, next) = varint(file, at, 6) else {
-        return Place::Refused(Refusal::Short);
-    };
+    let (value, next) = varint(file, at, 6)?;
     if value != 0 {
-        return Place::Refused(Refusal::FilterPipeline);
+        return Err(Refusal::FilterPipeline);
     }
-    Place::At(next)
+    Ok(next)
 }
 
-pub fn message_filter_pipeline(file: &[u8], at: usize) -> Place
+pub fn message_filter_pipeline(file: &[u8], at: usize) -> Result<usize, Refusal>
     ensures { place_out result ≡ read file.now filter_pipeline at }
 {
-    let ReadU8::Value(version, filters_at) = le_u8(file, at) else {
-        return Place::Refused(Refusal::Short);
-    };
+    let (version, filters_at) = le_u8(file, at)?;
     if version != 1 && version != 2 {
-        return Place::Refused(Refusal::FilterPipeline);
+        return Err(Refusal::FilterPipeline);
     }
-    let ReadU8::Value(filters, reserved_at) = le_u8(file, filters_at) else {
-        return Place::Refused(Refusal::Short);
-    };
+    let (filters, reserved_at) = le_u8(file, filters_at)?;
     if 32 <= filters {
-        return Place::Refused(Refusal::FilterPipeline);
+        return Err(Refusal::FilterPipeline);
     }
-    match pipeline_reserved(file, reserved_at, version) {
-        Place::Refused(r) => Place::Refused(r),
-        Place::At(list_at) => all_filters(file, list_at, filters, version),
-    }
+    let list_at = pipeline_reserved(file, reserved_at, version)?;
+    all_filters(file, list_at, filters, version)
 }

@@ -8,9 +8,9 @@ ghost use Rattle.ohdr_closing.specs.Answers.{Lends, walked_of, walk_out};
 ghost use Rattle.ohdr_entry.specs.Entries.{prefix_size};
 ghost use Rattle.ohdr_walk.specs.Code.{entry_of, run_of, walk_of};
 
-use helpers::{Place, signature};
-use ohdr_closing::{Limits, Progress, Walk, close_block, header_end, take_row};
-use ohdr_entry::{EntryRead, entry_alone};
+use helpers::signature;
+use ohdr_closing::{Limits, Progress, Stopped, close_block, header_end, take_row, with_entries};
+use ohdr_entry::{Entry, entry_alone};
 use parser::State;
 use records::Refusal;
 
@@ -28,30 +28,6 @@ pub fn message_prefix_size(flags: u8) -> usize
     if flags & 4 != 0 { 6 } else { 4 }
 }
 
-// The same header, and the same limits, made anew: a struct that is handed on to another call is
-// copied wherever it stands, here only where a block is opened.
-fn again(header: Header) -> Header
-    ensures { result ≡ header }
-{
-    let state = header.state;
-    Header {
-        state,
-        flags: header.flags,
-    }
-}
-
-fn again_limits(limits: Limits) -> Limits
-    ensures { result ≡ limits }
-{
-    let beyond = limits.beyond;
-    Limits {
-        entries: limits.entries,
-        beyond,
-        rows: limits.rows,
-        counts: limits.counts,
-    }
-}
-
 // An entry, and where it is a continuation the block that it opens. `levels` more levels of blocks
 // are allowed.
 #[cycle(blocks)]
@@ -62,44 +38,32 @@ fn message_entry(
     limits: Limits,
     from: Progress,
     levels: usize,
-) -> Walk
+) -> Result<Progress, Stopped>
     requires { Widths header.state × (levels ≤ 25) × (from.rows ≤ from.entries) × Lends limits table.old }
     ensures { walk_out result table.new ≡ entry_of file.now header limits levels from.at (walked_of from table.old) }
 {
-    let beyond = limits.beyond;
     if limits.entries <= from.entries {
-        return Walk::Refused(beyond, from.entries);
+        return with_entries(Err(limits.beyond), from.entries);
     }
     let begun = from.entries + 1;
-    match entry_alone(file, from.at, header.flags, header.state) {
-        EntryRead::Refused(r) => Walk::Refused(r, begun),
-        EntryRead::Message(row, next) => take_row(table, limits, from, row, next),
-        EntryRead::Continuation(block, next) => {
+    let read = entry_alone(file, from.at, header.flags, header.state);
+    let (entry, next) = with_entries(read, begun)?;
+    match entry {
+        Entry::Message(row) => take_row(table, limits, from, row, next),
+        Entry::Continuation(block) => {
             if levels == 0 {
-                return Walk::Refused(Refusal::BlockLevel, begun);
+                return with_entries(Err(Refusal::BlockLevel), begun);
             }
             let offset = block.offset as usize;
             let whole = offset + block.length as usize;
-            let start = match signature(file, offset, 0x4B48434F, Refusal::ContinuationSignature) {
-                Place::At(p) => p,
-                Place::Refused(r) => {
-                    return Walk::Refused(r, begun);
-                }
-            };
+            let mark = signature(file, offset, 0x4B48434F, Refusal::ContinuationSignature);
+            let start = with_entries(mark, begun)?;
             let first = Progress {
                 at: start,
                 rows: from.rows,
                 entries: begun,
             };
-            let inner = again(header);
-            let left = again_limits(limits);
-            let end = whole - 4;
-            let last = match message_block(file, table, inner, left, first, end, levels - 1) {
-                Walk::Done(p) => p,
-                Walk::Refused(r, n) => {
-                    return Walk::Refused(r, n);
-                }
-            };
+            let last = message_block(file, table, header, limits, first, whole - 4, levels - 1)?;
             close_block(file, offset, whole, last, next)
         }
     }
@@ -116,23 +80,17 @@ fn message_block(
     from: Progress,
     end: usize,
     levels: usize,
-) -> Walk
+) -> Result<Progress, Stopped>
     requires { Widths header.state × (levels ≤ 25) × (from.rows ≤ from.entries) × Lends limits table.old × (from.entries ≤ limits.entries) × (from.at ≤ length file.now) }
     ensures { walk_out result table.new ≡ run_of file.now header limits levels end from.at (walked_of from table.old) }
 {
     let prefix = message_prefix_size(header.flags);
+    // how many entries there are shows only as they are read
     let mut progress = from;
     while progress.at + prefix <= end {
-        match message_entry(file, table, header, limits, progress, levels) {
-            Walk::Refused(r, n) => {
-                return Walk::Refused(r, n);
-            }
-            Walk::Done(p) => {
-                progress = p;
-            }
-        }
+        progress = message_entry(file, table, header, limits, progress, levels)?;
     }
-    Walk::Done(progress)
+    Ok(progress)
 }
 
 // The entries of a header at `from`, from `at` on within its chunk's end, and what closes it. Of a
@@ -146,7 +104,7 @@ pub fn collect_all_messages(
     from: usize,
     at: usize,
     end: usize,
-) -> Walk
+) -> Result<Progress, Stopped>
     requires { Widths header.state × Lends limits table.old × (at ≤ length file.now) × (from ≤ end) }
     ensures { walk_out result table.new ≡ walk_of file.now header limits from end at table.old }
 {
@@ -155,18 +113,7 @@ pub fn collect_all_messages(
         rows: 0,
         entries: 0,
     };
-    let last = match message_block(file, table, header, limits, first, end, 25) {
-        Walk::Done(p) => p,
-        Walk::Refused(r, n) => {
-            return Walk::Refused(r, n);
-        }
-    };
-    match header_end(file, from, end, last.at) {
-        Place::Refused(r) => Walk::Refused(r, last.entries),
-        Place::At(next) => Walk::Done(Progress {
-            at: next,
-            rows: last.rows,
-            entries: last.entries,
-        }),
-    }
+    let last = message_block(file, table, header, limits, first, end, 25)?;
+    let next = with_entries(header_end(file, from, end, last.at), last.entries)?;
+    Ok(Progress { at: next, ..last })
 }

@@ -1,5 +1,5 @@
 -- What a state that was made, or refused, says of the widths: its definition has two cases. Assumes nothing.
-use Rattle.std.specs.Prelude.{ℕ, ◌≡◌, refl, Bool, true, false, ◌&&◌, leb}
+use Rattle.std.specs.Prelude.{ℕ, ◌≡◌, refl, Bool, true, false, ◌&&◌, leb, Result, Ok, Err}
 use Rattle.std.proofs.Common.{sym, ap, arith, leb-true, le-leb}
 use Rattle.format.specs.Format.{pick}
 use Rattle.format.specs.Bools.{and_left, and_right}
@@ -7,8 +7,6 @@ use Rattle.records.specs.Refusals.{refusal_number}
 use Rattle.records.specs.declared.Refusal.{Refusal}
 use Rattle.records.specs.declared.Refusal.TheVariants as refusals
 use Rattle.parser.specs.declared.State.{State}
-use Rattle.parser.specs.declared.NewState.{NewState}
-use Rattle.parser.specs.declared.NewState.TheVariants as states
 use Rattle.parser.specs.States.{Widths, width_allowed, state_for, state_of}
 
 module _ (offsets lengths end : ℕ) where
@@ -16,18 +14,18 @@ module _ (offsets lengths end : ℕ) where
   allow = width_allowed offsets && width_allowed lengths
 
   -- by the test of the widths
-  cases : (P : NewState → Type 0) → (allow ≡ true → P (states.Made (state_for offsets lengths end))) → (allow ≡ false → P (states.Refused refusals.Width)) → P (state_of offsets lengths end)
+  cases : (P : Result State Refusal → Type 0) → (allow ≡ true → P (Ok (state_for offsets lengths end))) → (allow ≡ false → P (Err refusals.Width)) → P (state_of offsets lengths end)
   cases P f g = go allow refl
     where
-      go : (t : Bool) → allow ≡ t → P (pick t (states.Made (state_for offsets lengths end)) (states.Refused refusals.Width))
+      go : (t : Bool) → allow ≡ t → P (pick t (Ok (state_for offsets lengths end)) (Err refusals.Width))
       go true e = f e
       go false e = g e
 
-  pub made : {s : State} → state_of offsets lengths end ≡ states.Made s → (allow ≡ true) × (s ≡ state_for offsets lengths end)
-  made {s} = cases (λ n. n ≡ states.Made s → (allow ≡ true) × (s ≡ state_for offsets lengths end)) (λ t e. (t, cc)) (λ t e. let z : ◌≡◌ {A = ℕ} 0 1 = cc in absurd (omega arith))
+  pub made : {s : State} → state_of offsets lengths end ≡ Ok s → (allow ≡ true) × (s ≡ state_for offsets lengths end)
+  made {s} = cases (λ n. n ≡ Ok s → (allow ≡ true) × (s ≡ state_for offsets lengths end)) (λ t e. (t, cc)) (λ t e. let z : ◌≡◌ {A = ℕ} 0 1 = cc in absurd (omega arith))
 
-  pub unmade : {x : Refusal} → state_of offsets lengths end ≡ states.Refused x → (allow ≡ false) × (refusal_number x ≡ 1)
-  unmade {x} = cases (λ n. n ≡ states.Refused x → (allow ≡ false) × (refusal_number x ≡ 1)) (λ t e. let z : ◌≡◌ {A = ℕ} 0 1 = cc in absurd (omega arith))
+  pub unmade : {x : Refusal} → state_of offsets lengths end ≡ Err x → (allow ≡ false) × (refusal_number x ≡ 1)
+  unmade {x} = cases (λ n. n ≡ Err x → (allow ≡ false) × (refusal_number x ≡ 1)) (λ t e. let z : ◌≡◌ {A = ℕ} 0 1 = cc in absurd (omega arith))
       (λ t e. let y : refusals.Width ≡ x = cc in (t, ap refusal_number (sym y)))
 
   -- the widths that are allowed are those from 2 to 8
@@ -45,5 +43,5 @@ module _ (offsets lengths end : ℕ) where
         lengths = leb-true lengths 8 (and_right (leb 2 lengths) (leb lengths 8) b);
       }
 
-  pub made_widths : (s : State) → state_of offsets lengths end ≡ states.Made s → Widths s
+  pub made_widths : (s : State) → state_of offsets lengths end ≡ Ok s → Widths s
   made_widths s e = rw (made e).1 (widths_of (made e).0)

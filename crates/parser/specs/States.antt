@@ -1,10 +1,9 @@
 -- The largest file, widths, the end-of-file address, and which addresses lie in the file. Assumes nothing: these are definitions.
-use Rattle.std.specs.Prelude.{ℕ, ◌≤◌, Bool, ◌&&◌, leb, ltb}
+use Rattle.std.specs.Prelude.{ℕ, ◌≤◌, Bool, ◌&&◌, leb, ltb, Result, Ok, Err}
 use Rattle.format.specs.Format.{pick}
+use Rattle.records.specs.declared.Refusal.{Refusal}
 use Rattle.records.specs.declared.Refusal.TheVariants as refusals
 use Rattle.parser.specs.declared.State.{State}
-use Rattle.parser.specs.declared.NewState.{NewState}
-use Rattle.parser.specs.declared.NewState.TheVariants as states
 
 -- the largest file
 abbrev pub file_limit : ℕ
@@ -26,11 +25,11 @@ abbrev pub state_for : ℕ → ℕ → ℕ → State
 state_for offsets lengths end = record { size_of_lengths = lengths; size_of_offsets = offsets; end_of_file_address = end }
 
 -- the same where both widths are allowed, or the refusal of a width
-abbrev pub state_of : ℕ → ℕ → ℕ → NewState
+abbrev pub state_of : ℕ → ℕ → ℕ → Result State Refusal
 state_of offsets lengths end =
     pick (width_allowed offsets && width_allowed lengths)
-    (states.Made (state_for offsets lengths end))
-    (states.Refused refusals.Width)
+    (Ok (state_for offsets lengths end))
+    (Err refusals.Width)
 
 -- an address of something in the file: above zero and below the end-of-file address
 abbrev pub address_valid : State → ℕ → Bool

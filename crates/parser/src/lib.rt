@@ -10,18 +10,13 @@ use records::Refusal;
 // The bytes of the largest file.
 pub const FILE_LIMIT: usize = 2147483648;
 
-// The widths are in bytes.
+// The widths are in bytes. Their bounds are no invariant of the type, since the definitions speak of
+// states of any widths (`state_for`).
 #[derive(Clone, Copy)]
 pub struct State {
     pub size_of_lengths: usize,
     pub size_of_offsets: usize,
     pub end_of_file_address: u64,
-}
-
-#[derive(Drop)]
-pub enum NewState {
-    Made(State),
-    Refused(Refusal),
 }
 
 // A width of 2 to 8 bytes.
@@ -36,16 +31,20 @@ pub fn width_allowed(width: u64) -> bool
 
 impl State {
     // Widths other than 2 to 8 are refused.
-    pub fn new(size_of_offsets: u64, size_of_lengths: u64, end_of_file_address: u64) -> NewState
+    pub fn new(
+        size_of_offsets: u64,
+        size_of_lengths: u64,
+        end_of_file_address: u64,
+    ) -> Result<State, Refusal>
         ensures { result ≡ state_of size_of_offsets size_of_lengths end_of_file_address }
     {
         if !width_allowed(size_of_offsets) {
-            return NewState::Refused(Refusal::Width);
+            return Err(Refusal::Width);
         }
         if !width_allowed(size_of_lengths) {
-            return NewState::Refused(Refusal::Width);
+            return Err(Refusal::Width);
         }
-        NewState::Made(State {
+        Ok(State {
             size_of_lengths: size_of_lengths as usize,
             size_of_offsets: size_of_offsets as usize,
             end_of_file_address,

@@ -1,13 +1,6 @@
 -- The record that stands for a missing one. Assumes nothing: these are definitions.
-use Rattle.std.specs.Prelude.{replicate}
-use Rattle.records.specs.declared.OptionU8.TheVariants as options8
-use Rattle.records.specs.declared.OptionU16.TheVariants as options16
-use Rattle.records.specs.declared.OptionU32.TheVariants as options32
-use Rattle.records.specs.declared.OptionU64.TheVariants as options64
+use Rattle.std.specs.Prelude.{replicate, None, Some}
 use Rattle.records.specs.declared.Address.TheVariants as addresses
-use Rattle.records.specs.declared.OptionAddress.TheVariants as option_addresses
-use Rattle.records.specs.declared.OptionDataFormat.TheVariants as formats
-use Rattle.records.specs.declared.ElementCount.TheVariants as counts
 use Rattle.records.specs.declared.Dimensions.{Dimensions}
 use Rattle.records.specs.declared.DataSpace.{DataSpace}
 use Rattle.records.specs.declared.LinkInfo.{LinkInfo}
@@ -28,28 +21,28 @@ default_data_space =
       dimension_max_size = no_dimensions;
       dimensionality = 0;
       flags = 0;
-      kind = options8.None;
-      elements = counts.Count 1;
+      kind = None;
+      elements = Some 1;
     }
 
 abbrev pub default_link_info : LinkInfo
 default_link_info =
     record {
       flags = 0;
-      maximum_creation_index = options64.None;
+      maximum_creation_index = None;
       fractal_heap_address = addresses.Number 0;
       address_btree_index = addresses.Number 0;
-      address_btree_order = option_addresses.None;
+      address_btree_order = None;
     }
 
 abbrev pub default_group_info : GroupInfo
 default_group_info =
     record {
       flags = 0;
-      maximum_compact_value = options16.None;
-      minimum_dense_value = options16.None;
-      number_of_entries = options16.None;
-      length_of_entries = options16.None;
+      maximum_compact_value = None;
+      minimum_dense_value = None;
+      number_of_entries = None;
+      length_of_entries = None;
     }
 
 abbrev pub default_attribute_info : AttributeInfo
@@ -68,8 +61,8 @@ default_data_type =
       class_and_version = 0;
       class_bit_field = 0;
       size = 0;
-      list_size = options32.None;
-      data_fmt = formats.None;
+      list_size = None;
+      data_fmt = None;
     }
 
 -- no bytes at all
@@ -77,4 +70,4 @@ abbrev pub empty_part : Part
 empty_part = record { position = 0; length = 0 }
 
 abbrev pub default_data_layout : DataLayout
-default_data_layout = record { address = option_addresses.None; «data» = empty_part }
+default_data_layout = record { address = None; «data» = empty_part }

@@ -1,13 +1,12 @@
 -- Which number it is, and its bits; and what a value has of it. Assumes nothing: these are definitions.
-use Rattle.std.specs.Prelude.{ℕ, suc, ◌-◌, ◌^◌, ℤ, pos, negsuc}
+use Rattle.std.specs.Prelude.{ℕ, suc, ◌-◌, ◌^◌, ℤ, pos, negsuc, Option, Some, None}
 use Rattle.std.specs.Float.{binary32, binary64}
 use Rattle.std.specs.Float.Ieee.{to_bits}
 use Rattle.records.specs.declared.Number.{Number}
 use Rattle.records.specs.declared.Number.TheVariants as numbers
-use Rattle.records.specs.declared.OptionPart.{OptionPart}
-use Rattle.records.specs.declared.OptionPart.TheVariants as parts
 use Rattle.records.specs.declared.Value.{Value}
 use Rattle.records.specs.declared.Value.TheVariants as values
+use Rattle.records.specs.declared.Part.{Part}
 
 -- 1 a whole number without sign, 2 with sign, 3 a single, 4 a double
 abbrev pub number_case : Number → ℕ
@@ -33,10 +32,10 @@ number_bits (numbers.SingleNan b) = b
 number_bits (numbers.DoubleNan b) = b
 
 -- a text is a part of the file
-abbrev pub value_text : Value → OptionPart
-value_text values.None = parts.None
-value_text (values.Text p) = parts.Some p
-value_text (values.Number n) = parts.None
+abbrev pub value_text : Value → Option Part
+value_text values.None = None
+value_text (values.Text p) = Some p
+value_text (values.Number n) = None
 
 -- what is no number is 0 and 0
 abbrev pub value_case : Value → ℕ

@@ -72,6 +72,7 @@ pub enum Refusal {
 }
 
 impl Refusal {
+    // The numbers are written out, and no discriminants, so that a wrong program can have two alike.
     pub fn number(self) -> u64
         ensures { result ≡ refusal_number self }
     {
@@ -109,79 +110,45 @@ impl Refusal {
     }
 }
 
-// A field that a record may lack.
-#[derive(Clone, Copy)]
-pub enum OptionU8 {
-    None,
-    Some(u8),
-}
-
-#[derive(Clone, Copy)]
-pub enum OptionU16 {
-    None,
-    Some(u16),
-}
-
-#[derive(Clone, Copy)]
-pub enum OptionU32 {
-    None,
-    Some(u32),
-}
-
-#[derive(Clone, Copy)]
-pub enum OptionU64 {
-    None,
-    Some(u64),
-}
-
-// An address of the file, or the undefined one, at which nothing stands.
+// An address of the file, or the undefined one, at which nothing stands. It is no Option, since a
+// record may lack an address: an Option in an Option would not tell which of the two is meant.
 #[derive(Clone, Copy)]
 pub enum Address {
     Undefined,
     Number(u64),
 }
 
-#[derive(Clone, Copy)]
-pub enum OptionAddress {
-    None,
-    Some(Address),
+// How the bits of a floating-point number stand in its bytes.
+#[derive(Clone, Copy, PartialEq, Eq)]
+pub struct FloatProperties {
+    pub bit_offset: u16,
+    pub bit_precision: u16,
+    pub exponent_location: u8,
+    pub exponent_size: u8,
+    pub mantissa_location: u8,
+    pub mantissa_size: u8,
+    pub exponent_bias: u32,
 }
 
 // How the bits of a number stand in its bytes.
 #[derive(Clone, Copy)]
 pub enum DataFormat {
-    Fixed {
-        bit_offset: u16,
-        bit_precision: u16,
-    },
-    Float {
-        bit_offset: u16,
-        bit_precision: u16,
-        exponent_location: u8,
-        exponent_size: u8,
-        mantissa_location: u8,
-        mantissa_size: u8,
-        exponent_bias: u32,
-    },
+    Fixed { bit_offset: u16, bit_precision: u16 },
+    Float(FloatProperties),
 }
 
-#[derive(Clone, Copy)]
-pub enum OptionDataFormat {
-    None,
-    Some(DataFormat),
-}
-
-// At most four sizes: the first `count` of `sizes`, and then zeros.
+// At most four sizes: the first `count` of `sizes`, and then zeros. They are no Vec, since there is
+// no heap.
 #[derive(Clone, Copy)]
 pub struct Dimensions {
     pub sizes: [u64; 4],
     pub count: u8,
 }
 
-impl Dimensions {
-    pub fn none() -> Self
-        ensures { result ≡ no_dimensions }
-    {
+impl Default for Dimensions {
+    ghost is_default = { λ r. r ≡ no_dimensions };
+
+    fn default() -> Self {
         Self {
             sizes: [0; 4],
             count: 0,
@@ -189,43 +156,29 @@ impl Dimensions {
     }
 }
 
-// A number of elements, or too many for 64 bits.
-#[derive(Clone, Copy)]
-pub enum ElementCount {
-    Count(u64),
-    TooMany,
-}
-
-// The sizes of an array, and how many elements they make.
+// The sizes of an array, and how many elements they make, unless they are too many for 64 bits.
 #[derive(Clone, Copy)]
 pub struct DataSpace {
     pub dimension_size: Dimensions,
     pub dimension_max_size: Dimensions,
     pub dimensionality: u8,
     pub flags: u8,
-    pub kind: OptionU8,
-    pub elements: ElementCount,
+    pub kind: Option<u8>,
+    pub elements: Option<u64>,
 }
 
-impl DataSpace {
+impl Default for DataSpace {
+    ghost is_default = { λ r. (r ≡ default_data_space) × TrueSpace r };
+
     // Without sizes it has one element.
-    pub fn default() -> Self
-        ensures value { result ≡ default_data_space }
-        ensures true_space { TrueSpace result }
-    {
+    fn default() -> Self {
         Self {
-            dimension_size: Dimensions {
-                sizes: [0; 4],
-                count: 0,
-            },
-            dimension_max_size: Dimensions {
-                sizes: [0; 4],
-                count: 0,
-            },
+            dimension_size: Dimensions::default(),
+            dimension_max_size: Dimensions::default(),
             dimensionality: 0,
             flags: 0,
-            kind: OptionU8::None,
-            elements: ElementCount::Count(1),
+            kind: None,
+            elements: Some(1),
         }
     }
 }
@@ -233,22 +186,22 @@ impl DataSpace {
 #[derive(Clone, Copy)]
 pub struct LinkInfo {
     pub flags: u8,
-    pub maximum_creation_index: OptionU64,
+    pub maximum_creation_index: Option<u64>,
     pub fractal_heap_address: Address,
     pub address_btree_index: Address,
-    pub address_btree_order: OptionAddress,
+    pub address_btree_order: Option<Address>,
 }
 
-impl LinkInfo {
-    pub fn default() -> Self
-        ensures { result ≡ default_link_info }
-    {
+impl Default for LinkInfo {
+    ghost is_default = { λ r. r ≡ default_link_info };
+
+    fn default() -> Self {
         Self {
             flags: 0,
-            maximum_creation_index: OptionU64::None,
+            maximum_creation_index: None,
             fractal_heap_address: Address::Number(0),
             address_btree_index: Address::Number(0),
-            address_btree_order: OptionAddress::None,
+            address_btree_order: None,
         }
     }
 }
@@ -256,22 +209,22 @@ impl LinkInfo {
 #[derive(Clone, Copy)]
 pub struct GroupInfo {
     pub flags: u8,
-    pub maximum_compact_value: OptionU16,
-    pub minimum_dense_value: OptionU16,
-    pub number_of_entries: OptionU16,
-    pub length_of_entries: OptionU16,
+    pub maximum_compact_value: Option<u16>,
+    pub minimum_dense_value: Option<u16>,
+    pub number_of_entries: Option<u16>,
+    pub length_of_entries: Option<u16>,
 }
 
-impl GroupInfo {
-    pub fn default() -> Self
-        ensures { result ≡ default_group_info }
-    {
+impl Default for GroupInfo {
+    ghost is_default = { λ r. r ≡ default_group_info };
+
+    fn default() -> Self {
         Self {
             flags: 0,
-            maximum_compact_value: OptionU16::None,
-            minimum_dense_value: OptionU16::None,
-            number_of_entries: OptionU16::None,
-            length_of_entries: OptionU16::None,
+            maximum_compact_value: None,
+            minimum_dense_value: None,
+            number_of_entries: None,
+            length_of_entries: None,
         }
     }
 }
@@ -285,10 +238,10 @@ pub struct AttributeInfo {
     pub attribute_creation_order_btree: Address,
 }
 
-impl AttributeInfo {
-    pub fn default() -> Self
-        ensures { result ≡ default_attribute_info }
-    {
+impl Default for AttributeInfo {
+    ghost is_default = { λ r. r ≡ default_attribute_info };
+
+    fn default() -> Self {
         Self {
             flags: 0,
             maximum_creation_index: 0,
@@ -304,20 +257,20 @@ pub struct DataType {
     pub class_and_version: u8,
     pub class_bit_field: u32,
     pub size: u32,
-    pub list_size: OptionU32,
-    pub data_fmt: OptionDataFormat,
+    pub list_size: Option<u32>,
+    pub data_fmt: Option<DataFormat>,
 }
 
-impl DataType {
-    pub fn default() -> Self
-        ensures { result ≡ default_data_type }
-    {
+impl Default for DataType {
+    ghost is_default = { λ r. r ≡ default_data_type };
+
+    fn default() -> Self {
         Self {
             class_and_version: 0,
             class_bit_field: 0,
             size: 0,
-            list_size: OptionU32::None,
-            data_fmt: OptionDataFormat::None,
+            list_size: None,
+            data_fmt: None,
         }
     }
 }
@@ -329,26 +282,20 @@ pub struct Part {
     pub length: usize,
 }
 
-#[derive(Clone, Copy)]
-pub enum OptionPart {
-    None,
-    Some(Part),
-}
-
 // A layout's data as bytes of the file, beside the address that the layout has for them. Compact
 // data have no address.
 #[derive(Clone, Copy)]
 pub struct DataLayout {
-    pub address: OptionAddress,
+    pub address: Option<Address>,
     pub data: Part,
 }
 
-impl DataLayout {
-    pub fn default() -> Self
-        ensures { result ≡ default_data_layout }
-    {
+impl Default for DataLayout {
+    ghost is_default = { λ r. r ≡ default_data_layout };
+
+    fn default() -> Self {
         Self {
-            address: OptionAddress::None,
+            address: None,
             data: Part {
                 position: 0,
                 length: 0,
@@ -369,7 +316,8 @@ pub enum Number {
     DoubleNan(u64),
 }
 
-// The value of an attribute: a text, as bytes of the file, or a number; many have none.
+// The value of an attribute: a text, as bytes of the file, or a number; many have none. `None` is a
+// case and no Option around it, since each reader of a value tells three cases apart.
 #[derive(Clone, Copy)]
 pub enum Value {
     None,
@@ -378,13 +326,13 @@ pub enum Value {
 }
 
 impl Value {
-    pub fn text(self) -> OptionPart
+    pub fn text(self) -> Option<Part>
         ensures { result ≡ value_text self }
     {
         match self {
-            Value::None => OptionPart::None,
-            Value::Text(p) => OptionPart::Some(p),
-            Value::Number(_) => OptionPart::None,
+            Value::None => None,
+            Value::Text(p) => Some(p),
+            Value::Number(_) => None,
         }
     }
 }

@@ -1,17 +1,16 @@
 -- What was written into a table is read from it, since a row's words are as many as a row has, and stand one after another. Assumes nothing.
-use Rattle.std.specs.Prelude.{ℕ, suc, ◌+◌, ◌*◌, ◌≤◌, ◌≡◌, refl, List, [], ◌∷◌, ◌++◌, length, get_or, set, drop}
+use Rattle.std.specs.Prelude.{ℕ, suc, ◌+◌, ◌*◌, ◌≤◌, ◌≡◌, refl, List, [], ◌∷◌, ◌++◌, length, get_or, set, drop, Option, Some, None}
 use Rattle.std.proofs.Common.{sym, ap, ◌∙◌, append_assoc, append-nil, arith, length-append, get_or-append-add}
 use Rattle.std.proofs.Math.Numerals.{towards_suc}
 use Rattle.std.proofs.lemmas.List.Edits.{sets, sets-eq}
 use Rattle.std.proofs.Math.Seq.{length-sets}
-use Rattle.records.specs.declared.OptionPart.{OptionPart}
-use Rattle.records.specs.declared.OptionPart.TheVariants as parts
 use Rattle.row.specs.declared.Row.{Row}
 use Rattle.row.specs.Rows.{row_words, part_words, words, encode, put_row, put_all, part_at, row_at, first_rows}
+use Rattle.records.specs.declared.Part.{Part}
 
-length-part_words : (p : OptionPart) → length (part_words p) ≡ 3
-length-part_words (parts.Some p) = refl
-length-part_words parts.None = refl
+length-part_words : (p : Option Part) → length (part_words p) ≡ 3
+length-part_words (Some p) = refl
+length-part_words None = refl
 
 pub length-words : (r : Row) → length (words r) ≡ row_words
 length-words r =
@@ -74,14 +73,14 @@ row_read : (r : Row) (ys : List ℕ) → row_at (words r ++ ys) 0 ≡ r
 unfolding row_at part_at
 row_read r ys = go r.name r.part
   where
-    with : OptionPart → OptionPart → Row
+    with : Option Part → Option Part → Row
     with name part = record { kind = r.kind; flags = r.flags; size = r.size; body = r.body; name = name; part = part; number_case = r.number_case; number_bits = r.number_bits }
 
-    go : (name part : OptionPart) → row_at (words (with name part) ++ ys) 0 ≡ with name part
-    go (parts.Some p) (parts.Some q) = refl
-    go (parts.Some p) parts.None = refl
-    go parts.None (parts.Some q) = refl
-    go parts.None parts.None = refl
+    go : (name part : Option Part) → row_at (words (with name part) ++ ys) 0 ≡ with name part
+    go (Some p) (Some q) = refl
+    go (Some p) None = refl
+    go None (Some q) = refl
+    go None None = refl
 
 row_behind : (rs : List Row) (ys : List ℕ) → row_at (encode rs ++ ys) (length rs) ≡ row_at ys 0
 unfolding row_at
@@ -128,7 +127,7 @@ module _ (t : List ℕ) (i a b c d e f : ℕ) where
   abbrev pub four : List ℕ
   four = set (set (set (set t i a) (i + 1) b) (i + 2) c) (i + 3) d
 
-  pub row_stored : (p q : OptionPart) → set (set (sets (sets four (i + 4) (part_words p)) (i + 7) (part_words q)) (i + 10) e) (i + 11) f
+  pub row_stored : (p q : Option Part) → set (set (sets (sets four (i + 4) (part_words p)) (i + 7) (part_words q)) (i + 10) e) (i + 11) f
       ≡ sets t i ((a ∷ b ∷ c ∷ d ∷ []) ++ (part_words p ++ (part_words q ++ (e ∷ f ∷ []))))
   row_stored p q =
       let vs = a ∷ b ∷ c ∷ d ∷ [] in

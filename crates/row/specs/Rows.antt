@@ -1,19 +1,18 @@
 -- A row of the lent table: how many words it has, and which figure stands in which. Document 01 says `row`. Assumes nothing: these are definitions.
-use Rattle.std.specs.Prelude.{ℕ, zero, suc, ◌+◌, ◌*◌, List, [], ◌∷◌, ◌++◌, get_or, eqb}
+use Rattle.std.specs.Prelude.{ℕ, zero, suc, ◌+◌, ◌*◌, List, [], ◌∷◌, ◌++◌, get_or, eqb, Option, Some, None}
 use Rattle.std.proofs.lemmas.List.Edits.{sets}
 use Rattle.format.specs.Format.{pick}
-use Rattle.records.specs.declared.OptionPart.{OptionPart}
-use Rattle.records.specs.declared.OptionPart.TheVariants as parts
 use Rattle.row.specs.declared.Row.{Row}
+use Rattle.records.specs.declared.Part.{Part}
 
 -- words of a row
 abbrev pub row_words : ℕ
 row_words = 12
 
 -- a part in three words: whether it is there, its position and its length; zeros where it is not
-abbrev pub part_words : OptionPart → List ℕ
-part_words (parts.Some p) = 1 ∷ p.position ∷ p.length ∷ []
-part_words parts.None = 0 ∷ 0 ∷ 0 ∷ []
+abbrev pub part_words : Option Part → List ℕ
+part_words (Some p) = 1 ∷ p.position ∷ p.length ∷ []
+part_words None = 0 ∷ 0 ∷ 0 ∷ []
 
 -- a row's words: type, flags, size, body position, three words each for name and part, and which number it has, and its bits
 abbrev pub words : Row → List ℕ
@@ -34,8 +33,8 @@ put_all t i [] = t
 put_all t i (r ∷ rs) = put_all (put_row t i r) (suc i) rs
 
 -- the part in the words from a place on; there is one where the first of them is 1
-unfoldable pub part_at : List ℕ → ℕ → OptionPart
-part_at t at = pick (eqb (get_or t at 0) 1) (parts.Some (record { position = get_or t (at + 1) 0; length = get_or t (at + 2) 0 })) parts.None
+unfoldable pub part_at : List ℕ → ℕ → Option Part
+part_at t at = pick (eqb (get_or t at 0) 1) (Some (record { position = get_or t (at + 1) 0; length = get_or t (at + 2) 0 })) None
 
 -- row i of a table
 unfoldable pub row_at : List ℕ → ℕ → Row

@@ -6,21 +6,22 @@ ghost use Rattle.std.specs.Prelude.{◌≡◌, ◌++◌, ◌+◌, ◌-◌, ◌*�
 ghost use Rattle.std.proofs.lemmas.List.Edits.{sets};
 ghost use Rattle.row.specs.Rows.{row_words, part_words, part_at, row_at, put_row};
 
-use records::{OptionPart, Part};
+use records::Part;
 
 // The words of a row.
 pub const ROW_WORDS: usize = 12;
 
 // A message's type, flags and size, the position of its body, its name and its part, where it has
-// them, and which number it has, and the number's bits.
-#[derive(Drop)]
+// them, and which number it has, and the number's bits. Type and number are no enums, since they are
+// words of the table, where any word may stand, and C reads them.
+#[derive(Clone, Copy)]
 pub struct Row {
     pub kind: u64,
     pub flags: u64,
     pub size: u64,
     pub body: usize,
-    pub name: OptionPart,
-    pub part: OptionPart,
+    pub name: Option<Part>,
+    pub part: Option<Part>,
     pub number_case: u64,
     pub number_bits: u64,
 }
@@ -33,17 +34,17 @@ pub fn rows_in(table: &[u64]) -> usize
 }
 
 // A part in three words of the table.
-fn put_part(table: &mut [u64], at: usize, part: OptionPart)
+fn put_part(table: &mut [u64], at: usize, part: Option<Part>)
     requires { at + 3 ≤ length table.old }
     ensures { table.new ≡ sets table.old at (part_words part) }
 {
     match part {
-        OptionPart::None => {
+        None => {
             table[at] = 0;
             table[at + 1] = 0;
             table[at + 2] = 0;
         }
-        OptionPart::Some(p) => {
+        Some(p) => {
             table[at] = 1;
             table[at + 1] = p.position as u64;
             table[at + 2] = p.length as u64;
@@ -61,23 +62,21 @@ pub fn put_row(table: &mut [u64], i: usize, row: Row)
     table[first + 1] = row.flags;
     table[first + 2] = row.size;
     table[first + 3] = row.body as u64;
-    let name = row.name;
-    let part = row.part;
-    put_part(table, first + 4, name);
-    put_part(table, first + 7, part);
+    put_part(table, first + 4, row.name);
+    put_part(table, first + 7, row.part);
     table[first + 10] = row.number_case;
     table[first + 11] = row.number_bits;
 }
 
 // A part in three words of the table, read: there is one where its first word is 1.
-fn part_at(table: &[u64], at: usize) -> OptionPart
+fn part_at(table: &[u64], at: usize) -> Option<Part>
     requires { at + 3 ≤ length table.now }
     ensures { result ≡ part_at table.now at }
 {
     if table[at] != 1 {
-        return OptionPart::None;
+        return None;
     }
-    OptionPart::Some(Part {
+    Some(Part {
         position: table[at + 1] as usize,
         length: table[at + 2] as usize,
     })
@@ -116,9 +115,5 @@ pub fn clear_behind(table: &mut [u64], rows: usize)
     requires { rows * row_words ≤ length table.old }
     ensures { table.new ≡ take (rows * row_words) table.old ++ replicate (length table.old - rows * row_words) 0 }
 {
-    let mut i = rows * ROW_WORDS;
-    while i < table.len() {
-        table[i] = 0;
-        i += 1;
-    }
+    table[rows * ROW_WORDS..].fill(0);
 }

@@ -1,5 +1,5 @@
 -- Datatype, dataspace and data of an attribute, as they are read and as the standard has them. Assumes nothing.
-use Rattle.std.specs.Prelude.{ℕ, ◌+◌, ◌-◌, ◌*◌, ◌%◌, ◌≤◌, ◌<◌, ◌≡◌, ◌⊎◌, Bool, ◌&&◌, List, get_or}
+use Rattle.std.specs.Prelude.{ℕ, ◌+◌, ◌-◌, ◌*◌, ◌%◌, ◌≤◌, ◌<◌, ◌≡◌, ◌⊎◌, Bool, ◌&&◌, List, get_or, Option, Some, None}
 use Rattle.std.proofs.Math.Path.{refl, sym}
 use Rattle.std.proofs.Common.{ap, ◌∙◌, subst, subst₂}
 use Rattle.std.proofs.Math.Logic.{inl, inr}
@@ -19,8 +19,6 @@ use Rattle.records.specs.declared.DataType.{DataType}
 use Rattle.records.specs.declared.DataSpace.{DataSpace}
 use Rattle.parser.specs.declared.State.{State}
 use Rattle.number_form.specs.declared.NumberForm.{NumberForm}
-use Rattle.number_form.specs.declared.OptionForm.{OptionForm}
-use Rattle.number_form.specs.declared.OptionForm.TheVariants as options
 use Rattle.number_form.specs.Forms.{number_form}
 use Rattle.element_number.specs.Values.{number_of, number_value}
 use Rattle.number_form.specs.Sizes.{no_form}
@@ -125,9 +123,9 @@ module _ (s : List ℕ) where
           m : n * size ≡ u.size
           m = rw (o, ← i.header.size) (omega arith)
 
-          go : (f : OptionForm) → number_form u ≡ f → Stands s (element_value f u) p q v → ValueTied t n p q v
-          go options.None e h = other_tied c d (λ _ w. let f = number_formed u t i.header i.properties w in no_form (sym e ∙ f.1)) (rw m h)
-          go (options.Some form) e h =
+          go : (f : Option NumberForm) → number_form u ≡ f → Stands s (element_value f u) p q v → ValueTied t n p q v
+          go None e h = other_tied c d (λ _ w. let f = number_formed u t i.header i.properties w in no_form (sym e ∙ f.1)) (rw m h)
+          go (Some form) e h =
               let b = stands_bind s (number_value form u.class_bit_field u.size) (λ x. done (values.Number x)) p q v h in
               let r = number_room s form u.class_bit_field u.size p b.0 b.1 b.2 in
               let w = form_said u t form i.header i.properties i.of_class e in

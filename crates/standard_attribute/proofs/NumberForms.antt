@@ -1,5 +1,5 @@
 -- A datatype has a number exactly where the standard's message has one, and it is the number that the tables of its class say. Assumes nothing.
-use Rattle.std.specs.Prelude.{ℕ, ◌-◌, ◌*◌, ◌/◌, ◌%◌, ◌^◌, ◌≤◌, ◌<◌, ◌⊎◌, Bool, false, not, ◌&&◌, ◌||◌, List, leb}
+use Rattle.std.specs.Prelude.{ℕ, ◌-◌, ◌*◌, ◌/◌, ◌%◌, ◌^◌, ◌≤◌, ◌<◌, ◌⊎◌, Bool, false, not, ◌&&◌, ◌||◌, List, leb, Option, Some, None}
 use Rattle.std.proofs.Math.Path.{◌≡◌, refl, sym}
 use Rattle.std.proofs.Common.{◌∙◌, ap, inl, inr, mod-eq_of_lt, arith}
 use Rattle.std.proofs.Math.Bool.{true}
@@ -13,15 +13,12 @@ use Rattle.format.specs.Bits.{bit}
 use Rattle.format.specs.Bools.{and_left, and_right}
 use Rattle.format.specs.BytesLaws.{by_le}
 use Rattle.format.specs.Format.{pick}
+use Rattle.records.specs.declared.DataFormat.{DataFormat}
 use Rattle.records.specs.declared.DataFormat.TheVariants as formats
-use Rattle.records.specs.declared.OptionDataFormat.{OptionDataFormat}
-use Rattle.records.specs.declared.OptionDataFormat.TheVariants as option_formats
 use Rattle.records.specs.declared.DataType.{DataType}
 use Rattle.records.specs.declared.Number.{Number}
 use Rattle.number_form.specs.declared.NumberForm.{NumberForm}
 use Rattle.number_form.specs.declared.NumberForm.TheVariants as forms
-use Rattle.number_form.specs.declared.OptionForm.{OptionForm}
-use Rattle.number_form.specs.declared.OptionForm.TheVariants as options
 use Rattle.number_form.specs.Forms.{is_signed, whole_size, fixed_form, is_float, float_form, form_of, number_form}
 use Rattle.element_number.specs.Values.{signed_of, number_of}
 use Rattle.number_form.specs.Sizes.{some_size, small_size, no_form}
@@ -35,7 +32,7 @@ use Rattle.standard_datatype.specs.Same.{format_of, OfClass, properties_of, Same
 use Rattle.standard_attribute.specs.SameNumbers.{WholeNumber, FloatNumber, HasNumber, unsigned, signed, SameFloat, SameNumber}
 
 -- the form, by the standard's fields
-abbrev their_form : Datatype → OptionForm
+abbrev their_form : Datatype → Option NumberForm
 their_form x = form_of (class (header_of x)) (header_of x).class_bit_field (header_of x).size (format_of x)
 
 their_form_lem : (t : DataType) (x : Datatype) → SameHeader t (header_of x) → t.data_fmt ≡ format_of x → number_form t ≡ their_form x
@@ -68,7 +65,7 @@ whole_sizes size e = go (eqb size 1) refl (eqb size 2) refl (eqb size 4) refl (e
     go false a false f false g false h t = let z : ◌≡◌ {A = ℕ} 0 1 = cc in absurd (omega arith)
 
 module _ (h : DatatypeHeader) where
-  fixed_is : (f : FixedPoint) (form : NumberForm) → class h ≡ 0 → fixed_form h.class_bit_field h.size f.bit_offset f.bit_precision ≡ options.Some form → FormIs form (datatype h (fixed_point f))
+  fixed_is : (f : FixedPoint) (form : NumberForm) → class h ≡ 0 → fixed_form h.class_bit_field h.size f.bit_offset f.bit_precision ≡ Some form → FormIs form (datatype h (fixed_point f))
   unfolding fixed_form
   fixed_is f form c e = go (whole_size h.size && (eqb f.bit_offset 0 && eqb f.bit_precision (8 * h.size))) refl (is_signed h.class_bit_field) refl e
     where
@@ -83,7 +80,7 @@ module _ (h : DatatypeHeader) where
           }
 
       go : (t : Bool) → (whole_size h.size && (eqb f.bit_offset 0 && eqb f.bit_precision (8 * h.size))) ≡ t → (u : Bool) → is_signed h.class_bit_field ≡ u
-          → pick t (options.Some (pick u forms.Signed forms.Unsigned)) options.None ≡ options.Some form → FormIs form (datatype h (fixed_point f))
+          → pick t (Some (pick u forms.Signed forms.Unsigned)) None ≡ Some form → FormIs form (datatype h (fixed_point f))
       go true t true u e = let i : forms.Signed ≡ form = cc in rw (← i) (is_signed_lem (whole t) (eqb-true (bits h.class_bit_field 3 1) 1 u))
       go true t false u e = let i : forms.Unsigned ≡ form = cc in let n = eqb-false (bits h.class_bit_field 3 1) 1 u in rw (← i) (is_unsigned (whole t) (omega arith))
       go false t u v e = no_form e
@@ -104,7 +101,7 @@ module _ (h : DatatypeHeader) where
         sign_location = eqb-true (bits h.class_bit_field 8 8) (8 * w - 1) (and_right (eqb (bits h.class_bit_field 4 2) 2) _ d);
       }
 
-  float_is_lem : (f : FloatingPoint) (form : NumberForm) → class h ≡ 1 → (f ≡ single) ⊎ (f ≡ double) → float_form h.class_bit_field h.size f.bit_precision ≡ options.Some form
+  float_is_lem : (f : FloatingPoint) (form : NumberForm) → class h ≡ 1 → (f ≡ single) ⊎ (f ≡ double) → float_form h.class_bit_field h.size f.bit_precision ≡ Some form
       → FormIs form (datatype h (floating_point f))
   unfolding float_form
   float_is_lem f form c k e = go (is_float h.class_bit_field h.size f.bit_precision 4) refl (is_float h.class_bit_field h.size f.bit_precision 8) refl e
@@ -118,18 +115,18 @@ module _ (h : DatatypeHeader) where
       two w (inr d) = d
 
       go : (t : Bool) → is_float h.class_bit_field h.size f.bit_precision 4 ≡ t → (u : Bool) → is_float h.class_bit_field h.size f.bit_precision 8 ≡ u
-          → pick t (options.Some forms.Single) (pick u (options.Some forms.Double) options.None) ≡ options.Some form → FormIs form (datatype h (floating_point f))
+          → pick t (Some forms.Single) (pick u (Some forms.Double) None) ≡ Some form → FormIs form (datatype h (floating_point f))
       go true t u v e = let i : forms.Single ≡ form = cc in let w = float_number f 4 c t in rw (← i) (is_single w (one w k))
       go false t true v e = let i : forms.Double ≡ form = cc in let w = float_number f 8 c v in rw (← i) (is_double w (two w k))
       go false t false v e = no_form e
 
 -- a variable-length type is of another class
-list_none : (class bits size : ℕ) (F : OptionDataFormat) → class ≡ 9 → form_of class bits size F ≡ options.None
-list_none class bits size option_formats.None e = refl
-list_none class bits size (option_formats.Some (formats.Fixed o p)) e = rw e
-list_none class bits size (option_formats.Some (formats.Float o p xl xs ml ms b)) e = rw e
+list_none : (class bits size : ℕ) (F : Option DataFormat) → class ≡ 9 → form_of class bits size F ≡ None
+list_none class bits size None e = refl
+list_none class bits size (Some (formats.Fixed o p)) e = rw e
+list_none class bits size (Some (formats.Float f)) e = rw e
 
-form_is : (h : DatatypeHeader) (p : Properties) (form : NumberForm) → OfClass (class h) p → their_form (datatype h p) ≡ options.Some form → FormIs form (datatype h p)
+form_is : (h : DatatypeHeader) (p : Properties) (form : NumberForm) → OfClass (class h) p → their_form (datatype h p) ≡ Some form → FormIs form (datatype h p)
 form_is h (fixed_point f) form c e = fixed_is h f form c (rw c at e)
 form_is h (floating_point f) form c e = float_is_lem h f form c.0 c.1 (rw c.0 at e)
 form_is h no_properties form c e = no_form e
@@ -137,7 +134,7 @@ form_is h (members m) form c e = no_form e
 form_is h (parent_type t) form c e = no_form (sym (list_none (class h) h.class_bit_field h.size (format_of t) c) ∙ e)
 
 -- A datatype that is read has a number only where the standard's message has one,
-pub form_said : (t : DataType) (x : Datatype) (form : NumberForm) → SameHeader t (header_of x) → t.data_fmt ≡ format_of x → OfClass (class (header_of x)) (properties_of x) → number_form t ≡ options.Some form
+pub form_said : (t : DataType) (x : Datatype) (form : NumberForm) → SameHeader t (header_of x) → t.data_fmt ≡ format_of x → OfClass (class (header_of x)) (properties_of x) → number_form t ≡ Some form
     → FormIs form x
 form_said t (datatype h p) form i f c e = form_is h p form c (sym (their_form_lem t (datatype h p) i f) ∙ e)
 
@@ -152,7 +149,7 @@ not_vax : (h : DatatypeHeader) → bits h.class_bit_field 6 1 ≡ 0 → bit h.cl
 not_vax h e = rw e
 
 abbrev Formed : Datatype → Type 0
-Formed x = (form : NumberForm) × (their_form x ≡ options.Some form)
+Formed x = (form : NumberForm) × (their_form x ≡ Some form)
 
 has_form : (x : Datatype) → HasNumber x → Formed x
 unfolding fixed_form float_form is_float
@@ -165,7 +162,7 @@ has_form (datatype h (members m)) w = absurd w
 has_form (datatype h (parent_type t)) w = absurd w
 
 -- and everywhere there.
-pub number_formed : (t : DataType) (x : Datatype) → SameHeader t (header_of x) → t.data_fmt ≡ format_of x → HasNumber x → (form : NumberForm) × (number_form t ≡ options.Some form)
+pub number_formed : (t : DataType) (x : Datatype) → SameHeader t (header_of x) → t.data_fmt ≡ format_of x → HasNumber x → (form : NumberForm) × (number_form t ≡ Some form)
 number_formed t x i f w = let g = has_form x w in (g.0, their_form_lem t x i f ∙ g.1)
 
 -- properties that have a number are those of their class, where a float is one that is read

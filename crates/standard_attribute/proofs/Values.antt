@@ -1,6 +1,6 @@
 -- Wherever an attribute message of the standard stands with a text or a number, and no listed difference applies, the attribute that is read stands
 -- over the same bytes, with the text or the number as its value. Assumes nothing.
-use Rattle.std.specs.Prelude.{ℕ, ◌+◌, ◌-◌, ◌*◌, ◌%◌, ◌≤◌, ◌<◌, ◌≡◌, Bool, not, ◌&&◌, ◌||◌, List, eqb}
+use Rattle.std.specs.Prelude.{ℕ, ◌+◌, ◌-◌, ◌*◌, ◌%◌, ◌≤◌, ◌<◌, ◌≡◌, Bool, not, ◌&&◌, ◌||◌, List, eqb, Option, Some, None}
 use Rattle.std.proofs.Math.Path.{refl, sym, ap, subst}
 use Rattle.std.proofs.Common.{◌∙◌, arith}
 use Rattle.std.proofs.Math.Logic.{inl}
@@ -23,8 +23,6 @@ use Rattle.records.specs.declared.DataType.{DataType}
 use Rattle.records.specs.declared.DataSpace.{DataSpace}
 use Rattle.parser.specs.declared.State.{State}
 use Rattle.number_form.specs.declared.NumberForm.{NumberForm}
-use Rattle.number_form.specs.declared.OptionForm.{OptionForm}
-use Rattle.number_form.specs.declared.OptionForm.TheVariants as options
 use Rattle.number_form.specs.Forms.{number_form}
 use Rattle.element_number.specs.Values.{element, number_of, number_value}
 use Rattle.element_number.specs.Kept.{stored, stands_number}
@@ -270,7 +268,7 @@ module _ (s : List ℕ) (state : State) where
             (values.Text part, (part, refl, record { position = refl; length = d }), rw (c, lt-ltb 0 t.size k, e) (a, d, (refl, refl)))
 
     -- the number of one element
-    number_here : AreBytes s → (t : DataType) (form : NumberForm) (n u : ℕ) → class_of t.class_and_version ≤ 1 → n ≡ 1 → number_form t ≡ options.Some form → u + t.size ≤ length s
+    number_here : AreBytes s → (t : DataType) (form : NumberForm) (n u : ℕ) → class_of t.class_and_version ≤ 1 → n ≡ 1 → number_form t ≡ Some form → u + t.size ≤ length s
         → Stands s (value t n) u (u + t.size) (values.Number (number_of form t.size (stored s t.class_bit_field u t.size)))
     unfolding value
     number_here bytes t form n u c e f l =
@@ -314,10 +312,10 @@ module _ (s : List ℕ) where
       go true = (u + m, (values.None, (l, (refl, refl))))
       go false = (u, (values.None, (refl, refl)))
 
-  element_reads : (o : OptionForm) (t : DataType) (u : ℕ) → u + t.size ≤ length s → (q : ℕ) × Reads s (element_value o t) u q
+  element_reads : (o : Option NumberForm) (t : DataType) (u : ℕ) → u + t.size ≤ length s → (q : ℕ) × Reads s (element_value o t) u q
   unfolding number_value element bind
-  element_reads options.None t u l = other_reads t.size u l
-  element_reads (options.Some form) t u l = (u + t.size, (_, (l, (refl, refl))))
+  element_reads None t u l = other_reads t.size u l
+  element_reads (Some form) t u l = (u + t.size, (_, (l, (refl, refl))))
 
   value_reads : (t : DataType) (n u : ℕ) → u + n * t.size ≤ length s → (class_of t.class_and_version ≡ 9 → (n ≡ 1) × (t.size ≤ 12)) → (q : ℕ) × Reads s (value t n) u q
   unfolding value text_value list_value

@@ -1,10 +1,8 @@
 -- Compounds with a member that the standard reads: one that is read too, and two that are refused, by listed differences. Assumes nothing.
-use Rattle.std.specs.Prelude.{ℕ, ◌≡◌, refl, List, [], ◌∷◌, ◌++◌}
+use Rattle.std.specs.Prelude.{ℕ, ◌≡◌, refl, List, [], ◌∷◌, ◌++◌, None}
 use Rattle.std.proofs.Common.{arith}
 use Rattle.format.specs.Bytes.{le, name_length}
 use Rattle.format.specs.Format.{found, refused, read, bind, times}
-use Rattle.records.specs.declared.OptionU32.TheVariants as options32
-use Rattle.records.specs.declared.OptionDataFormat.TheVariants as option_formats
 use Rattle.ohdr_member.specs.Members.{member_fields}
 use Rattle.ohdr_member.specs.Members as fields
 use Rattle.ohdr_datatype.specs.DataTypes.{known_class, known_type, data_type_header, plain, type_layer, data_type}
@@ -27,7 +25,7 @@ unfolding read bind le name_length marked datatype_header terminated member1 mem
 compound1_read = (refl, refl)
 
 -- the scalar is read over the same bytes; 38: the array is refused
-pub compound1_here : (read (compound1 scalar) (data_type 32) 0 ≡ found (record { class_and_version = 0x16; class_bit_field = 1; size = 60; list_size = options32.None; data_fmt = option_formats.None }) 56)
+pub compound1_here : (read (compound1 scalar) (data_type 32) 0 ≡ found (record { class_and_version = 0x16; class_bit_field = 1; size = 60; list_size = None; data_fmt = None }) 56)
     × (read (compound1 array) (data_type 32) 0 ≡ refused 11)
 unfolding read bind times le name_length known_class known_type data_type_header member_fields fields.member1 ours.member plain ours.properties type_layer data_type
 compound1_here = (refl, refl)

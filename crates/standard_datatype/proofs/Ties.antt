@@ -1,7 +1,7 @@
 -- Wherever a datatype that is read stands, the standard's datatype message stands over the same bytes with the same fields, or a listed
 -- difference applies. Assumes nothing.
 use Prim.Native.Nat.{ℕ, zero, suc, ◌%◌, ◌≤◌, ◌<◌}
-use Rattle.std.specs.Prelude.{◌≡◌, refl, ◌⊎◌, Bool, true, false, ◌||◌, eqb, ltb}
+use Rattle.std.specs.Prelude.{◌≡◌, refl, ◌⊎◌, Bool, true, false, ◌||◌, eqb, ltb, Option, None}
 use Rattle.std.proofs.Common.{ap, arith, eqb-true, ltb-true}
 use Rattle.std.proofs.Math.Logic.{inl, inr}
 use mathlib.Core.List.{List}
@@ -9,12 +9,11 @@ use Rattle.format.specs.BytesLaws.{by_le}
 use Rattle.format.specs.Bools.{and_left, and_right}
 use Rattle.format.specs.Format.{Format, done, Stands, bind, times, nothing}
 use Rattle.format.specs.Standing.{stands_bind, bind_stands}
-use Rattle.records.specs.declared.OptionDataFormat.{OptionDataFormat}
-use Rattle.records.specs.declared.OptionDataFormat.TheVariants as option_formats
 use Rattle.records.specs.declared.DataType.{DataType}
+use Rattle.records.specs.declared.DataFormat.{DataFormat}
+use Rattle.records.specs.declared.FloatProperties.{FloatProperties}
 use Rattle.ohdr_member.specs.Members.{member_fields}
 use Rattle.ohdr_datatype.specs.declared.DataTypeHeader.{DataTypeHeader}
-use Rattle.ohdr_datatype.specs.declared.FloatProperties.{FloatProperties}
 use Rattle.ohdr_datatype.specs.DataTypes.{class_of, version_of, known_version, known_class, known_type, data_type_header, fixed_properties, float_properties, float_is, ieee, float_format, plain, list_properties, type_layer, data_type}
 use Rattle.ohdr_datatype.specs.DataTypes as ours
 use Rattle.standard.specs.Fields.{only}
@@ -43,11 +42,11 @@ header_tied =
     tied_number (λ cv. tied_check (known_type cv) 11 (λ k. tied_number (λ bits. tied_number (λ size. tied_check (ltb size 64) 11 (λ l.
     tied_done (record { same = refl; known = k; small = l }))))))
 
-same_header : (h : DataTypeHeader) (b : DatatypeHeader) (f : OptionDataFormat) (t : DataType) → the_header h ≡ b → type_of h f ≡ t → SameHeader t b
+same_header : (h : DataTypeHeader) (b : DatatypeHeader) (f : Option DataFormat) (t : DataType) → the_header h ≡ b → type_of h f ≡ t → SameHeader t b
 same_header h b f t e d = rw (← e, ← d) (record { class_and_version = refl; class_bit_field = refl; size = refl; list_size_lem = refl })
 
 -- the properties of ours are those of the standard, and members of version 1 are scalar
-record SameProperties (class : ℕ) (f : OptionDataFormat) (p : Properties) : Type 0 where
+record SameProperties (class : ℕ) (f : Option DataFormat) (p : Properties) : Type 0 where
   format : f ≡ format_in p
   of_class : OfClass class p
   outside : (h : DatatypeHeader) → ScalarMembers h p
@@ -148,12 +147,12 @@ module _ (longest : ℕ) (wide : 4095 ≤ longest) where
   -- over what is tied of the types inside
   module _ (levels : ℕ) (types : TiedBut (λ s p. TypeDiffers longest s p) SameType (data_type levels) (datatype_message longest levels)) where
     -- of the members ours keeps nothing
-    record NoFormat (f : OptionDataFormat) (m : Members) : Type 0 where
-      none : f ≡ option_formats.None
+    record NoFormat (f : Option DataFormat) (m : Members) : Type 0 where
+      none : f ≡ None
       outside : EveryMember (λ x t. ScalarMember x) m
       inside : EachMember ScalarMembers m
 
-    abbrev our_members : DatatypeHeader → ℕ → Format OptionDataFormat
+    abbrev our_members : DatatypeHeader → ℕ → Format (Option DataFormat)
     our_members h n = times n (ours.member (version h) h.size (data_type levels)) plain
 
     abbrev their_members : DatatypeHeader → ℕ → Format Members
@@ -162,10 +161,10 @@ module _ (longest : ℕ) (wide : 4095 ≤ longest) where
     abbrev MembersTied : DatatypeHeader → ℕ → Type 0
     MembersTied h n = TiedBut (λ s p. MembersDiffer longest s h n p) NoFormat (our_members h n) (their_members h n)
 
-    abbrev MembersStood : DatatypeHeader → ℕ → List ℕ → ℕ → ℕ → OptionDataFormat → Type 0
+    abbrev MembersStood : DatatypeHeader → ℕ → List ℕ → ℕ → ℕ → Option DataFormat → Type 0
     MembersStood h n s p q a = MembersDiffer longest s h n p ⊎ Stood NoFormat (their_members h n) s p q a
 
-    one_more : (h : DatatypeHeader) (n : ℕ) (s : List ℕ) (p m r q : ℕ) (a : OptionDataFormat)
+    one_more : (h : DatatypeHeader) (n : ℕ) (s : List ℕ) (p m r q : ℕ) (a : Option DataFormat)
         → LongName (name_limit (version h)) s p ⊎ Stood {A = Unit {0}} (λ _ x. ScalarMember x) (member longest h) s p m tt
         → (t : DataType) → TypeDiffers longest s m ⊎ Stood SameType (datatype_message longest levels) s m r t
         → MembersStood h n s r q a → MembersStood h (suc n) s p q a
@@ -194,7 +193,7 @@ module _ (longest : ℕ) (wide : 4095 ≤ longest) where
         next : MembersTied h n → MembersTied h (suc n)
         next rest = record { ties = whole }
           where
-            whole : (s : List ℕ) (p q : ℕ) (a : OptionDataFormat) → Stands s (our_members h (suc n)) p q a → MembersStood h (suc n) s p q a
+            whole : (s : List ℕ) (p q : ℕ) (a : Option DataFormat) → Stands s (our_members h (suc n)) p q a → MembersStood h (suc n) s p q a
             whole s p q a i =
                 let w = stands_bind s (ours.member (version h) h.size (data_type levels)) (λ _. our_members h n) p q a i in
                 let f = stands_bind s (member_fields (version h) h.size) (λ _. bind (data_type levels) (λ _. nothing)) p w.0 w.1 w.2 in
@@ -202,7 +201,7 @@ module _ (longest : ℕ) (wide : 4095 ≤ longest) where
                 let y = rw t.3.0 at (types.ties s f.0 t.0 t.1 t.2) in
                 one_more h n s p f.0 w.0 q a ((member_tied longest wide h v (omega arith)).ties s p f.0 tt f.2) t.1 y (rest.ties s w.0 q a w.3)
 
-    abbrev our_compound : DataTypeHeader → Format OptionDataFormat
+    abbrev our_compound : DataTypeHeader → Format (Option DataFormat)
     our_compound h = times (h.class_bit_field % 65536) (ours.member (version_of h.class_and_version) h.size (data_type levels)) plain
 
     abbrev their_compound : DataTypeHeader → Format Properties
@@ -270,7 +269,7 @@ module _ (longest : ℕ) (wide : 4095 ≤ longest) where
         → TiedBut (λ s p. PropertiesDiffer longest s (the_header h) p) SameType (our_rest h) (their_rest (the_header h))
     rest_tied h k l = rw (known_version_lem h k) (but_more differs (but_bind (properties_tied h k l) (λ f p e. but_tied {D = λ _ _. ⊥} (tied_done (same f p e)))))
       where
-        same : (f : OptionDataFormat) (p : Properties) → SameProperties (class_of h.class_and_version) f p → SameType (type_of h f) (datatype (the_header h) p)
+        same : (f : Option DataFormat) (p : Properties) → SameProperties (class_of h.class_and_version) f p → SameType (type_of h f) (datatype (the_header h) p)
         same f p e = record { header = same_header h (the_header h) f (type_of h f) refl refl; properties = e.format; of_class = e.of_class; members = (e.outside (the_header h), e.inside) }
 
         differs : (s : List ℕ) (p : ℕ) → Either (λ s p. PropertiesDiffer longest s (the_header h) p) (properties longest (datatype_message longest levels) (the_header h)) (λ _ _ _. ⊥) s p

@@ -1,6 +1,6 @@
 -- A datatype message of the standard that no listed difference turns back is read, over the same bytes. Assumes nothing.
 use Prim.Native.Nat.{ℕ, zero, suc, ◌+◌, ◌≤◌, ◌<◌}
-use Rattle.std.specs.Prelude.{◌≡◌, ◌⊎◌, Bool, true, false, ◌||◌, List}
+use Rattle.std.specs.Prelude.{◌≡◌, ◌⊎◌, Bool, true, false, ◌||◌, List, Option, None}
 use Rattle.std.proofs.Math.Path.{refl, ap}
 use Rattle.std.proofs.Common.{sym, ◌∙◌, subst, inl}
 use Rattle.std.proofs.Math.Logic.{inr}
@@ -11,14 +11,13 @@ use borrow.Author.Tests.{eqb-true, lt-ltb}
 use Rattle.format.specs.Bytes.{le, Named, to_multiple_of8}
 use Rattle.format.specs.Format.{Format, done, refuse, number, skip, name, Stands, bind, times, check, pick, nothing}
 use Rattle.format.specs.Standing.{stands_bind, stands_check, bind_stands}
-use Rattle.records.specs.declared.OptionDataFormat.{OptionDataFormat}
-use Rattle.records.specs.declared.OptionDataFormat.TheVariants as option_formats
 use Rattle.records.specs.declared.DataType.{DataType}
+use Rattle.records.specs.declared.DataFormat.{DataFormat}
+use Rattle.records.specs.declared.FloatProperties.{FloatProperties}
 use Rattle.ohdr_member.specs.Members.{member_fields}
 use Rattle.ohdr_member.specs.Members as fields
 use Rattle.ohdr_member.specs.Facts.{unused1}
 use Rattle.ohdr_datatype.specs.declared.DataTypeHeader.{DataTypeHeader}
-use Rattle.ohdr_datatype.specs.declared.FloatProperties.{FloatProperties}
 use Rattle.ohdr_datatype.specs.DataTypes.{known_class, known_type, data_type_header, fixed_properties, float_properties, float_is, ieee, float_format, plain, list_properties, type_layer, data_type}
 use Rattle.ohdr_datatype.specs.DataTypes as ours
 use Rattle.standard.specs.Fields.{Bytes}
@@ -45,7 +44,7 @@ header_read s p q h i v c l =
     rw (← e) (i.0, rw (a, b) (i.1.0, (i.1.1.0, rw (lt-ltb _ 64 d) (i.1.1.1.0, refl))))
 
 -- header and properties
-pub layer_read : (s : List ℕ) (T : Format DataType) (p m q : ℕ) (h : DataTypeHeader) (f : OptionDataFormat) → Stands s data_type_header p m h → Stands s (ours.properties h T) m q f
+pub layer_read : (s : List ℕ) (T : Format DataType) (p m q : ℕ) (h : DataTypeHeader) (f : Option DataFormat) → Stands s data_type_header p m h → Stands s (ours.properties h T) m q f
     → Stands s (type_layer T) p q (type_of h f)
 unfolding type_layer
 layer_read s T p m q h f i j =
@@ -138,7 +137,7 @@ module _ (s : List ℕ) (longest : ℕ) where
   TypeRead U p q t = ReadAs SameType U s p q t
 
   -- properties stand from p to q, with the format of the standard's properties x
-  abbrev pub PropertiesRead : Format OptionDataFormat → ℕ → ℕ → Properties → Type 0
+  abbrev pub PropertiesRead : Format (Option DataFormat) → ℕ → ℕ → Properties → Type 0
   PropertiesRead F p q x = Stands s F p q (format_in x)
 
   pub fixed_read : (p q : ℕ) (x : Properties) → Stands s (bind fixed_point_lem (λ f. done (fixed_point f))) p q x → PropertiesRead fixed_properties p q x
@@ -180,7 +179,7 @@ module _ (s : List ℕ) (longest : ℕ) where
   -- over the types inside
   module _ (T : Format Datatype) (U : Format DataType) (types : (p q : ℕ) (t : Datatype) → Stands s T p q t → Each ReadType t → TypeRead U p q t) where
     members_read : (h : DatatypeHeader) (n p q : ℕ) (m : Members) → (version h ≡ 1) ⊎ (version h ≡ 3) → h.size < 64 → Stands s (members_of longest h T n) p q m
-        → EveryMember (λ x t. ReadMember h x) m → EachMember ReadType m → Stands s (times n (ours.member (version h) h.size U) plain) p q option_formats.None
+        → EveryMember (λ x t. ReadMember h x) m → EachMember ReadType m → Stands s (times n (ours.member (version h) h.size U) plain) p q None
     unfolding members_of times plain ours.member
     members_read h zero p q m v u i r w = (i.0, refl)
     members_read h (suc n) p q m v u i r w =
@@ -192,7 +191,7 @@ module _ (s : List ℕ) (longest : ℕ) where
         let x = member_read h p a.0 a.1 v u a.2 r'.0 in
         let y = types a.0 b.0 b.1 b.2 w'.0 in
         let z = members_read h n b.0 q c.1 v u (rw c.3.0 at c.2) r'.1 w'.1 in
-        bind_stands s (ours.member (version h) h.size U) (λ _. times n (ours.member (version h) h.size U) plain) p b.0 q tt option_formats.None
+        bind_stands s (ours.member (version h) h.size U) (λ _. times n (ours.member (version h) h.size U) plain) p b.0 q tt None
         (bind_stands s (member_fields (version h) h.size) (λ _. bind U (λ _. nothing)) p a.0 b.0 tt tt x (bind_stands s U (λ _. nothing) a.0 b.0 b.0 y.value tt y.stands (refl, refl)))
         z
 
@@ -239,8 +238,8 @@ module _ (s : List ℕ) (longest : ℕ) where
             → ((c0 || (c1 || (c3 || (c6 || (c7 || c9))))) ≡ true) × Stands s (
             pick c0 fixed_properties (
             pick c1 float_format (
-            pick (c3 || c7) (done option_formats.None) (
-            pick c6 (times (member_count h) (ours.member (version h) h.size U) (done option_formats.None)) (
+            pick (c3 || c7) (done None) (
+            pick c6 (times (member_count h) (ours.member (version h) h.size U) (done None)) (
             pick c9 (list_properties U) (
             refuse 11)))))) p q (format_in x) × OfClass (class h) x
         go true a c1 b c3 c6 e c7 d c9 g i = (refl, fixed_read p q x i, of_class fixed_point_lem fixed_point i (λ f k. eqb-true (class h) 0 a))

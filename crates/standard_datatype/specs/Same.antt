@@ -1,11 +1,8 @@
 -- What the record of a datatype that is read has of the standard's datatype message. Assumes nothing: these are definitions.
-use Rattle.std.specs.Prelude.{ℕ, ◌≡◌, ◌⊎◌, List, eqb}
+use Rattle.std.specs.Prelude.{ℕ, ◌≡◌, ◌⊎◌, List, eqb, Option, Some, None}
 use Rattle.format.specs.Format.{Stands, pick}
-use Rattle.records.specs.declared.OptionU32.{OptionU32}
-use Rattle.records.specs.declared.OptionU32.TheVariants as options32
+use Rattle.records.specs.declared.DataFormat.{DataFormat}
 use Rattle.records.specs.declared.DataFormat.TheVariants as formats
-use Rattle.records.specs.declared.OptionDataFormat.{OptionDataFormat}
-use Rattle.records.specs.declared.OptionDataFormat.TheVariants as option_formats
 use Rattle.records.specs.declared.DataType.{DataType}
 use Rattle.ohdr_datatype.specs.declared.DataTypeHeader.{DataTypeHeader}
 use Rattle.ohdr_datatype.specs.DataTypes.{list_size}
@@ -15,25 +12,31 @@ use Rattle.standard_datatype.specs.ReadTypes.{single, double}
 
 -- the format of a number is that of the property fields; a variable-length type takes it of its parent type, and so on to the innermost
 abbrev mutual
-  pub format_of : Datatype → OptionDataFormat
+  pub format_of : Datatype → Option DataFormat
   format_of (datatype h p) = format_in p
 
-  pub format_in : Properties → OptionDataFormat
-  format_in (fixed_point f) = option_formats.Some (formats.Fixed f.bit_offset f.bit_precision)
+  pub format_in : Properties → Option DataFormat
+  format_in (fixed_point f) = Some (formats.Fixed f.bit_offset f.bit_precision)
   format_in (floating_point f) =
-      option_formats.Some (formats.Float
-      f.bit_offset f.bit_precision f.exponent_location f.exponent_size
-      f.mantissa_location f.mantissa_size f.exponent_bias)
-  format_in no_properties = option_formats.None
-  format_in (members m) = option_formats.None
+      Some (formats.Float (record {
+        bit_offset = f.bit_offset;
+        bit_precision = f.bit_precision;
+        exponent_location = f.exponent_location;
+        exponent_size = f.exponent_size;
+        mantissa_location = f.mantissa_location;
+        mantissa_size = f.mantissa_size;
+        exponent_bias = f.exponent_bias;
+      }))
+  format_in no_properties = None
+  format_in (members m) = None
   format_in (parent_type t) = format_of t
 
 -- The standard has no list size: of a variable-length type it is the type's own size (docs/DIFFERENCES.md, 39), other classes have none.
-abbrev pub list_size_of : DatatypeHeader → OptionU32
-list_size_of h = pick (eqb (class h) 9) (options32.Some h.size) options32.None
+abbrev pub list_size_of : DatatypeHeader → Option ℕ
+list_size_of h = pick (eqb (class h) 9) (Some h.size) None
 
 -- the record that is made of a header and a format
-abbrev pub type_of : DataTypeHeader → OptionDataFormat → DataType
+abbrev pub type_of : DataTypeHeader → Option DataFormat → DataType
 type_of h f = record { class_and_version = h.class_and_version; class_bit_field = h.class_bit_field; size = h.size; list_size = list_size h; data_fmt = f }
 
 -- a member of version 1 that is read is scalar (docs/DIFFERENCES.md, 38)

@@ -1,7 +1,8 @@
 -- A header of the specification that no listed limit or refusal turns back passes the check, and is accepted by the call, with exactly its messages.
 -- Assumes nothing.
-use Rattle.std.specs.Prelude.{ℕ, ◌≡◌, refl, List, length}
+use Rattle.std.specs.Prelude.{ℕ, ◌≡◌, refl, List, length, Result, Ok}
 use Rattle.std.proofs.Common.{subst, ap, ◌∙◌, arith}
+use Rattle.records.specs.declared.Refusal.{Refusal}
 use Rattle.row.specs.Clearing.{table}
 use Rattle.parser.specs.States.{state_for}
 use Rattle.grammar.specs.Grammar.{Item}
@@ -9,11 +10,8 @@ use Rattle.grammar.specs.Table.{messages, messages_of, rows_of}
 use Rattle.data_object_header.specs.Headers.{Checkable}
 use Rattle.data_object_header.specs.HeaderLaws.{header_unique}
 use Rattle.data_object_winners.specs.Wins.{wins_of}
-use Rattle.data_object_check.specs.declared.CheckAnswer.{CheckAnswer}
-use Rattle.data_object_check.specs.declared.CheckAnswer.TheVariants as checks
+use Rattle.data_object_check.specs.declared.HeaderFigures.{HeaderFigures}
 use Rattle.data_object_check.specs.Checked.{Checked}
-use Rattle.data_object.specs.declared.Answer.{Answer}
-use Rattle.data_object.specs.declared.Answer.TheVariants as answers
 use Rattle.data_object.specs.declared.DataObject.{DataObject}
 use Rattle.data_object.specs.Decoded.{Accepted, Meant, Decoded}
 use Rattle.standard.specs.Headers.{HeaderMessage}
@@ -40,13 +38,13 @@ module _ (file : List ℕ) (offsets lengths end at : ℕ) (xs : List HeaderMessa
       record { of = y; checkable = record { widths = h.widths; small = h.small; reading = y.reading; few = omega (arith, k.0, h.few) }; entry_count = k.0; row_count = k.1 }
 
   -- the check passes it, with its end and its numbers
-  pub header_passes : (h : CheckedObjectHeader file offsets lengths end at xs) (a : CheckAnswer) → Checked file offsets lengths end at a
-      → a ≡ checks.Passed (record { next = next_after h.header; entries = length xs; rows = length (no_continuations xs) })
+  pub header_passes : (h : CheckedObjectHeader file offsets lengths end at xs) (a : Result HeaderFigures Refusal) → Checked file offsets lengths end at a
+      → a ≡ Ok (record { next = next_after h.header; entries = length xs; rows = length (no_continuations xs) })
   header_passes h a c =
       let y = has_reading h in
       c.accepts (next_after h.header) y.of.items y.checkable ∙ figured (next_after h.header) y.entry_count y.row_count
     where
-      figured : (next : ℕ) {i j k l : ℕ} → i ≡ j → k ≡ l → checks.Passed (record { next = next; entries = i; rows = k }) ≡ checks.Passed (record { next = next; entries = j; rows = l })
+      figured : (next : ℕ) {i j k l : ℕ} → i ≡ j → k ≡ l → ◌≡◌ {A = Result HeaderFigures Refusal} (Ok (record { next = next; entries = i; rows = k })) (Ok (record { next = next; entries = j; rows = l }))
       figured next e d = rw (e, d) refl
 
   -- and with a table of n words, which has the rows: the call accepts it
@@ -56,8 +54,8 @@ module _ (file : List ℕ) (offsets lengths end at : ℕ) (xs : List HeaderMessa
       let y = has_reading h.checked in
       let is = y.of.items in
       let next = next_after h.checked.header in
-      let f : r.answer ≡ answers.Read next (length xs) = d.accepts next is (record { checkable = y.checkable; room = omega (arith, y.row_count, h.room) }) ∙ ap (λ (c : ℕ). answers.Read next c) y.entry_count in
-      let a : Accepted file offsets lengths end at n next (length xs) r t = subst (λ (x : Answer). Meant file offsets lengths end at n x r t) f d.meant in
+      let f : r.answer ≡ Ok (next, length xs) = d.accepts next is (record { checkable = y.checkable; room = omega (arith, y.row_count, h.room) }) ∙ ap (λ (c : ℕ). Ok (next, c)) y.entry_count in
+      let a : Accepted file offsets lengths end at n next (length xs) r t = subst (λ (x : Result (ℕ × ℕ) Refusal). Meant file offsets lengths end at n x r t) f d.meant in
       let u = header_unique file (state_for offsets lengths end) at next next a.items is a.readable.checkable.reading y.of.reading in
       record {
         answer = f;

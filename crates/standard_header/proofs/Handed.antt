@@ -1,11 +1,10 @@
 -- What decoding a header hands out is the specification's, field by field, or a listed difference applies: in a chunk (`ChunkDiffers`) or in the
 -- body of a message (`FillDiffers`, `PipelineDiffers`, `TypeDiffers`, `AttributeDiffers`). What the fields are compared by says the rest: `Same..`.
 -- Assumes nothing.
-use Rattle.std.specs.Prelude.{ℕ, ◌≤◌, ◌≡◌, List}
+use Rattle.std.specs.Prelude.{ℕ, ◌≤◌, ◌≡◌, List, Result, Ok}
 use Rattle.std.proofs.Common.{subst}
+use Rattle.records.specs.declared.Refusal.{Refusal}
 use Rattle.parser.specs.States.{state_for}
-use Rattle.data_object.specs.declared.Answer.{Answer}
-use Rattle.data_object.specs.declared.Answer.TheVariants as answers
 use Rattle.data_object.specs.declared.DataObject.{DataObject}
 use Rattle.data_object.specs.Decoded.{Accepted, Meant, Decoded}
 use Rattle.standard_header.specs.HeaderIs.{HeaderIs, Standard}
@@ -31,5 +30,5 @@ module _ (file : List ℕ) (offsets lengths end at n longest : ℕ) where
       }
 
   -- in the words of the call's contract
-  pub decoded_standard : 4095 ≤ longest → (r : DataObject) (t : List ℕ) → Decoded file offsets lengths end at n r t → (after count : ℕ) → r.answer ≡ answers.Read after count → Standard file offsets lengths end at n longest after count r t
-  decoded_standard enough r t d after count e = accepted_standard enough (subst (λ (x : Answer). Meant file offsets lengths end at n x r t) e d.meant)
+  pub decoded_standard : 4095 ≤ longest → (r : DataObject) (t : List ℕ) → Decoded file offsets lengths end at n r t → (after count : ℕ) → r.answer ≡ Ok (after, count) → Standard file offsets lengths end at n longest after count r t
+  decoded_standard enough r t d after count e = accepted_standard enough (subst (λ (x : Result (ℕ × ℕ) Refusal). Meant file offsets lengths end at n x r t) e d.meant)

@@ -1,16 +1,15 @@
 -- The numbers in the table of a decoded header are the specification's, without a condition on the file: it is one of bytes, and the call says so.
 -- Assumes nothing.
-use Rattle.std.specs.Prelude.{ℕ, zero, suc, ◌<◌, ◌≡◌, refl, Bool, true, false, List, [], ◌∷◌, ◌++◌, map, ltb}
+use Rattle.std.specs.Prelude.{ℕ, zero, suc, ◌<◌, ◌≡◌, refl, Bool, true, false, List, [], ◌∷◌, ◌++◌, map, ltb, Result, Ok, Err}
 use Rattle.std.proofs.Common.{sym, subst, arith, ltb-true, ltb-false}
 use Rattle.format.specs.Bytes.{AreBytes}
+use Rattle.records.specs.declared.Refusal.{Refusal}
 use Rattle.row.specs.declared.Row.{Row}
 use Rattle.row.specs.Rows.{row_at, first_rows}
 use Rattle.parser.specs.States.{state_for}
 use Rattle.grammar.specs.Message.{Message, row_of}
 use Rattle.grammar.specs.Table.{messages_of}
 use Rattle.grammar.specs.Each.{All}
-use Rattle.data_object.specs.declared.Answer.{Answer}
-use Rattle.data_object.specs.declared.Answer.TheVariants as answers
 use Rattle.data_object.specs.declared.DataObject.{DataObject}
 use Rattle.data_object.specs.Decoded.{Accepted, Meant, Decoded}
 use Rattle.data_object.specs.DecodedLaws.{accepted_rows}
@@ -53,6 +52,6 @@ module _ (file : List ℕ) (bytes : AreBytes file) (offsets lengths end at n : �
   pub decoded_numbers : (r : DataObject) (t : List ℕ) → Decoded file offsets lengths end at n r t → (i : ℕ) → i < r.rows → NumberInRow file lengths (row_at t i)
   decoded_numbers r t d = go r.answer d.meant
     where
-      go : (x : Answer) → Meant file offsets lengths end at n x r t → (i : ℕ) → i < r.rows → NumberInRow file lengths (row_at t i)
-      go (answers.Read next count) a i l = accepted_numbers a i l
-      go (answers.Refused y) z i l = absurd (omega (arith, z.rows))
+      go : (x : Result (ℕ × ℕ) Refusal) → Meant file offsets lengths end at n x r t → (i : ℕ) → i < r.rows → NumberInRow file lengths (row_at t i)
+      go (Ok (next, count)) a i l = accepted_numbers a i l
+      go (Err y) z i l = absurd (omega (arith, z.rows))

@@ -1,6 +1,6 @@
 -- What is handed out of a header of the specification that no listed limit or refusal turns back: its messages, entry by entry, each with the fields
 -- that the specification's message has. Assumes nothing: these are definitions.
-use Rattle.std.specs.Prelude.{ℕ, ◌≡◌, List, [], ◌∷◌, length}
+use Rattle.std.specs.Prelude.{ℕ, ◌≡◌, List, [], ◌∷◌, length, Ok}
 use Rattle.records.specs.declared.DataSpace.{DataSpace}
 use Rattle.records.specs.declared.LinkInfo.{LinkInfo}
 use Rattle.records.specs.declared.GroupInfo.{GroupInfo}
@@ -16,7 +16,6 @@ use Rattle.grammar.specs.Message as messages
 use Rattle.grammar.specs.Grammar.{Item}
 use Rattle.grammar.specs.Table.{messages_of, rows_of}
 use Rattle.data_object_winners.specs.Wins.{wins_of}
-use Rattle.data_object.specs.declared.Answer.TheVariants as answers
 use Rattle.data_object.specs.declared.DataObject.{DataObject}
 use Rattle.data_object.specs.Decoded.{wins_in}
 use Rattle.standard.specs.Tie.{Every}
@@ -66,7 +65,7 @@ module _ (file : List ℕ) (offsets lengths end at n : ℕ) where
   -- the call's answer: it ends where the header ends, and counts its messages; they are the entries, those that are no continuations are the rows, in
   -- their order, and the records are those that win
   pub record AcceptedAs (xs : List HeaderMessage) (h : CheckedObjectHeader file offsets lengths end at xs) (r : DataObject) (t : List ℕ) : Type 0 where
-    pub answer : r.answer ≡ answers.Read (next_after h.header) (length xs)
+    pub answer : r.answer ≡ Ok (next_after h.header, length xs)
     pub row_count : r.rows ≡ length (no_continuations xs)
     pub items : List Item
     pub entries : EntriesAs file (state_for offsets lengths end) xs h.messages_read items

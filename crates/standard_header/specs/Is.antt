@@ -1,10 +1,8 @@
 -- What one message of a reading is, in the words of the specification: its entry a header message, its body the message of its type. Entries are those of
 -- docs/DIFFERENCES.md, part one. Assumes nothing: these are definitions.
-use Rattle.std.specs.Prelude.{ℕ, ◌≤◌, ◌+◌, ◌<◌, ◌≡◌, ◌⊎◌, List, [], ◌∷◌}
+use Rattle.std.specs.Prelude.{ℕ, ◌≤◌, ◌+◌, ◌<◌, ◌≡◌, ◌⊎◌, List, [], ◌∷◌, Option, Some}
 use Rattle.format.specs.Bytes.{AreBytes}
 use Rattle.format.specs.Format.{Stands}
-use Rattle.records.specs.declared.OptionPart.{OptionPart}
-use Rattle.records.specs.declared.OptionPart.TheVariants as parts
 use Rattle.records.specs.declared.Part.{Part}
 use Rattle.records.specs.declared.DataLayout.{DataLayout}
 use Rattle.records.specs.declared.DataSpace.{DataSpace}
@@ -59,10 +57,10 @@ module _ (file : List ℕ) (s : State) where
 
   -- where the specification's attribute stands with a text, and no listed difference applies, the part is the bytes of its data field, less the
   -- zeros at their end; whatever bounds its format has
-  abbrev pub TextAt : ℕ → ℕ → OptionPart → Type 0
+  abbrev pub TextAt : ℕ → ℕ → Option Part → Type 0
   TextAt b q part =
       (longest levels upto : ℕ) (x : standard.Attribute) → Stands file (attribute_message longest levels s.size_of_lengths) b upto x → TextValue s.size_of_lengths x
-      → (q ≡ upto) × ((text : Part) × (part ≡ parts.Some text) × Less file text (data_of x))
+      → (q ≡ upto) × ((text : Part) × (part ≡ Some text) × Less file text (data_of x))
 
   -- Where it stands with a number, the two words are the case and the bits of the number that its data field is by the table of its class. What is
   -- said of numbers is said of a file of bytes.

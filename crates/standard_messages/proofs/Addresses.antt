@@ -1,11 +1,10 @@
 -- An address is the specification's: undefined where that is, and the same number elsewhere. Assumes nothing.
-use Rattle.std.specs.Prelude.{ℕ, ◌+◌, ◌<◌, ◌≡◌, refl, Bool, true, false, List, get_or, eqb}
+use Rattle.std.specs.Prelude.{ℕ, ◌+◌, ◌<◌, ◌≡◌, refl, Bool, true, false, List, get_or, eqb, Some}
 use Rattle.std.proofs.Common.{ap, arith, eq-eqb, eqb-true}
 use Rattle.format.specs.Bytes.{AreBytes, le, all_ones}
 use Rattle.format.specs.BytesLaws.{bytes_all_ones, all_ones_bytes}
 use Rattle.format.specs.Format.{bind, pick, done}
 use Rattle.records.specs.declared.Address.TheVariants as addresses
-use Rattle.records.specs.declared.OptionAddress.TheVariants as option_addresses
 use Rattle.helpers.specs.Addresses.{address, address_of, defined, defined_address}
 use Rattle.ohdr_info.specs.Info.{cond_address}
 use Rattle.standard.specs.Fields as standard
@@ -46,5 +45,5 @@ defined_address_tied w refusal = tied_number (λ n. go n (eqb n (all_ones w)))
 
 pub tied_cond_address : (test : Bool) (w : ℕ) → Tied (SameAddress test) (cond_address test w) (standard.optional_address test w)
 unfolding bind cond_address address standard.address standard.optional_address
-tied_cond_address true w = tied_number (λ n. tied_done (record { zero = address_of_lem w n; some = ap option_addresses.Some (address_of_lem w n) }))
+tied_cond_address true w = tied_number (λ n. tied_done (record { zero = address_of_lem w n; some = ap Some (address_of_lem w n) }))
 tied_cond_address false w = tied_done (record { zero = refl; some = refl })

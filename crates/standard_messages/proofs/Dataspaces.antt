@@ -1,6 +1,6 @@
 -- The dataspace as it is read is that of the specification.
 -- Entries are those of docs/DIFFERENCES.md, part one. Assumes nothing.
-use Rattle.std.specs.Prelude.{ℕ, zero, suc, ◌+◌, ◌≤◌, ◌≡◌, refl, ◌⊎◌, Bool, true, false, not, ◌&&◌, ◌||◌, List, [], ◌∷◌, ◌++◌, length, take, drop, set, replicate, eqb, leb}
+use Rattle.std.specs.Prelude.{ℕ, zero, suc, ◌+◌, ◌≤◌, ◌≡◌, refl, ◌⊎◌, Bool, true, false, not, ◌&&◌, ◌||◌, List, [], ◌∷◌, ◌++◌, length, take, drop, set, replicate, eqb, leb, Some}
 use Rattle.std.proofs.Common.{sym, ap, ◌∙◌, inl, inr, ⊎_elim, arith, eqb-true, leb-true}
 use Rattle.std.proofs.lemmas.List.Edits.{sets, sets-eq}
 use Rattle.std.proofs.Math.Seq.{take-append_seam}
@@ -10,7 +10,6 @@ use Rattle.format.specs.Bytes.{all_ones}
 use Rattle.format.specs.Format.{Format, done, number, bind, pick}
 use Rattle.records.specs.Elements.{elements_by, elements_of, count_of}
 use Rattle.records.specs.Elements as ours
-use Rattle.records.specs.declared.OptionU8.TheVariants as options8
 use Rattle.records.specs.declared.Dimensions.{Dimensions}
 use Rattle.records.specs.declared.DataSpace.{DataSpace}
 use Rattle.parser.specs.declared.State.{State}
@@ -32,7 +31,7 @@ sizes_product : (d : Dimensions) (ns : List ℕ) → SameSizes d ns → ours.pro
 sizes_product d ns s = product_same (take d.count d.sizes) ∙ ap product s.size
 
 -- by kind and sizes there are as many elements as the standard has
-elements_by_lem : (d : Dimensions) (x : Dataspace2) → SameSizes d x.dimension_size → ElementsDiffer (version_2 x) ⊎ (elements_by (options8.Some x.type) d ≡ elements (version_2 x))
+elements_by_lem : (d : Dimensions) (x : Dataspace2) → SameSizes d x.dimension_size → ElementsDiffer (version_2 x) ⊎ (elements_by (Some x.type) d ≡ elements (version_2 x))
 unfolding product
 elements_by_lem d x s = go (eqb x.type 0) refl (eqb x.type 2) refl x.dimension_size refl
   where
@@ -48,7 +47,7 @@ elements_by_lem d x s = go (eqb x.type 0) refl (eqb x.type 2) refl x.dimension_s
     go false e false f ns g = inr p
 
 counted_by : (d : Dimensions) (x : Dataspace2) → SameSizes d x.dimension_size
-    → ElementsDiffer (version_2 x) ⊎ (count_of (elements_by (options8.Some x.type) d) ≡ count_of (elements (version_2 x)))
+    → ElementsDiffer (version_2 x) ⊎ (count_of (elements_by (Some x.type) d) ≡ count_of (elements (version_2 x)))
 counted_by d x s = ⊎_elim inl (λ e. inr (ap count_of e)) (elements_by_lem d x s)
 
 pub elements_same : (d : DataSpace) (b : Dataspace) → SameDataspace d b → ElementsDiffer b ⊎ (elements_of d ≡ elements b)

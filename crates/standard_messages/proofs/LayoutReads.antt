@@ -1,5 +1,5 @@
 -- A layout and a continuation of the specification are read, where the conditions of `ReadMessages` hold of them. Assumes nothing.
-use Rattle.std.specs.Prelude.{ℕ, ◌+◌, ◌≤◌, ◌<◌, ◌≡◌, Bool, ◌&&◌, List, eqb, leb, ltb}
+use Rattle.std.specs.Prelude.{ℕ, ◌+◌, ◌≤◌, ◌<◌, ◌≡◌, Bool, ◌&&◌, List, eqb, leb, ltb, Some}
 use Rattle.std.proofs.Math.Path.{refl, ap}
 use Rattle.std.proofs.Common.{sym, ◌∙◌, arith}
 use Rattle.std.proofs.Math.Bool.{true, false}
@@ -11,7 +11,6 @@ use Rattle.format.specs.Format.{done, refuse, bytes, there, bind, pick, nothing,
 use Rattle.format.specs.Standing.{stands_bind, stands_check}
 use Rattle.records.specs.declared.Address.{Address}
 use Rattle.records.specs.declared.Address.TheVariants as addresses
-use Rattle.records.specs.declared.OptionAddress.TheVariants as option_addresses
 use Rattle.records.specs.declared.DataLayout.{DataLayout}
 use Rattle.records.specs.Defaults.{empty_part}
 use Rattle.helpers.specs.Addresses.{address, address_of, defined_address}
@@ -59,18 +58,18 @@ module _ (s : List ℕ) (st : State) where
 
   -- the data at an address: there are some only where they lie in the bytes that are given
   raw_read : (size : ℕ) (a : Address) (p q : ℕ) → p ≡ q → ((n : ℕ) → a ≡ addresses.Number n → 0 < n → n < st.end_of_file_address → n + size ≤ length s)
-      → Reads s (bind (raw_data_lem st size a) (λ raw_data. done {A = DataLayout} (record { address = option_addresses.Some a; «data» = raw_data }))) p q
+      → Reads s (bind (raw_data_lem st size a) (λ raw_data. done {A = DataLayout} (record { address = Some a; «data» = raw_data }))) p q
   unfolding raw_data_lem data_from bind
-  raw_read size addresses.Undefined p q e f = (record { address = option_addresses.Some addresses.Undefined; «data» = empty_part }, (e, refl))
+  raw_read size addresses.Undefined p q e f = (record { address = Some addresses.Undefined; «data» = empty_part }, (e, refl))
   raw_read size (addresses.Number n) p q e f = go (address_valid st n) refl
     where
       go : (t : Bool) → address_valid st n ≡ t
-          → Reads s (bind (pick t (there n (bytes size nothing) (λ _. done (contiguous_part n size))) (done empty_part)) (λ raw_data. done {A = DataLayout} (record { address = option_addresses.Some (addresses.Number n); «data» = raw_data }))) p q
+          → Reads s (bind (pick t (there n (bytes size nothing) (λ _. done (contiguous_part n size))) (done empty_part)) (λ raw_data. done {A = DataLayout} (record { address = Some (addresses.Number n); «data» = raw_data }))) p q
       go true d =
           let a = ltb-true 0 n (and_left (ltb 0 n) (ltb n st.end_of_file_address) d) in
           let b = ltb-true n st.end_of_file_address (and_right (ltb 0 n) (ltb n st.end_of_file_address) d) in
-          (record { address = option_addresses.Some (addresses.Number n); «data» = contiguous_part n size }, (n + size, tt, (f n refl a b, (refl, refl)), (e, refl)))
-      go false d = (record { address = option_addresses.Some (addresses.Number n); «data» = empty_part }, (e, refl))
+          (record { address = Some (addresses.Number n); «data» = contiguous_part n size }, (n + size, tt, (f n refl a b, (refl, refl)), (e, refl)))
+      go false d = (record { address = Some (addresses.Number n); «data» = empty_part }, (e, refl))
 
   contiguous_read : (p q : ℕ) (x : ContiguousStorage) → Stands s (contiguous_storage w l) p q x → ReadContiguous s st x → Reads s (ours.contiguous st) p q
   unfolding bind address standard.address ours.contiguous contiguous_storage

@@ -1,13 +1,12 @@
 -- The old fill value and the data layout as they are read are those of the specification.
 -- Entries are those of docs/DIFFERENCES.md, part one. Assumes nothing.
-use Rattle.std.specs.Prelude.{ℕ, ◌<◌, ◌≡◌, Bool, eqb, ltb}
+use Rattle.std.specs.Prelude.{ℕ, ◌<◌, ◌≡◌, Bool, eqb, ltb, Some, None}
 use Rattle.std.proofs.Math.Path.{refl}
 use Rattle.std.proofs.Common.{sym, ◌∙◌, arith, eq-eqb, ne_eqb}
 use Rattle.std.proofs.Math.Bool.{true, false}
 use Rattle.format.specs.Format.{done, refuse, bytes, there, bind, pick, nothing}
 use Rattle.records.specs.declared.Address.{Address}
 use Rattle.records.specs.declared.Address.TheVariants as addresses
-use Rattle.records.specs.declared.OptionAddress.TheVariants as option_addresses
 use Rattle.records.specs.declared.Part.{Part}
 use Rattle.records.specs.declared.DataLayout.{DataLayout}
 use Rattle.records.specs.Defaults.{empty_part}
@@ -28,7 +27,7 @@ pub fill_value_old_tied : Tied (λ _ _. Unit {0}) fill_old fill_value_old
 unfolding fill_value fill_value_old
 fill_value_old_tied = tied_number (λ size. tied_raw (λ x e. tied_done tt))
 
-compact_tied : Tied (λ ours c. ours ≡ record { address = option_addresses.None; «data» = empty_part }) compact compact_storage
+compact_tied : Tied (λ ours c. ours ≡ record { address = None; «data» = empty_part }) compact compact_storage
 unfolding compact compact_storage
 compact_tied = tied_number (λ size. tied_raw (λ x e. tied_done refl))
 
@@ -44,7 +43,7 @@ part_none address size e = rw (eq-eqb size 0 e)
 -- what is read of a size and an address beside these
 module _ (s : State) (size : ℕ) where
   abbrev layout_of : Address → Part → DataLayout
-  layout_of a part = record { address = option_addresses.Some a; «data» = part }
+  layout_of a part = record { address = Some a; «data» = part }
 
   abbrev storage : standard.Address → ContiguousStorage
   storage a = record { address = a; size = size }

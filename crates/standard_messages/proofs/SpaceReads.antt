@@ -1,15 +1,13 @@
 -- A dataspace message of the standard is read, over the same bytes and with the same elements, where no value in it is refused. Assumes nothing.
 use Prim.Native.Nat.{ℕ, zero, suc, ◌+◌, ◌≤◌}
 use Rattle.std.proofs.Math.Path.{◌≡◌}
-use Rattle.std.specs.Prelude.{refl, ◌⊎◌, Bool, ◌&&◌, ◌||◌, List, [], ◌∷◌, eqb, leb, length, replicate, set}
+use Rattle.std.specs.Prelude.{refl, ◌⊎◌, Bool, ◌&&◌, ◌||◌, List, [], ◌∷◌, eqb, leb, length, replicate, set, Option, Some, None}
 use Rattle.std.proofs.Common.{◌∙◌, inl, inr, arith, eq-eqb, le-leb}
 use Rattle.std.proofs.Math.Bool.{true, false}
 use Rattle.format.specs.Bits.{bit}
 use Rattle.format.specs.Bytes.{le, all_ones}
 use Rattle.format.specs.Format.{done, refuse, number, bind, pick, Stands}
 use Rattle.format.specs.Standing.{stands_bind, stands_check, bind_stands}
-use Rattle.records.specs.declared.OptionU8.{OptionU8}
-use Rattle.records.specs.declared.OptionU8.TheVariants as options8
 use Rattle.records.specs.Defaults.{no_dimensions}
 use Rattle.records.specs.Elements.{elements_by, count_of}
 use Rattle.records.specs.declared.Dimensions.{Dimensions}
@@ -77,7 +75,7 @@ module _ (s : List ℕ) (w : ℕ) where
   maximum_read n false p q x h a = (no_dimensions, (h.0, refl))
 
   -- the sizes and the maximum sizes
-  rest_read : (dimensionality flags : ℕ) (kind : OptionU8) (p m q : ℕ) (ns : List ℕ) (x : Stored) → Stands s (many dimensionality (number w done)) p m ns
+  rest_read : (dimensionality flags : ℕ) (kind : Option ℕ) (p m q : ℕ) (ns : List ℕ) (x : Stored) → Stands s (many dimensionality (number w done)) p m ns
       → Stands s (stored_sizes (bit flags 0) dimensionality w) m q x → Every (λ n. n ≤ 1000000) ns → EachStored (λ n. (n ≤ 1000000) ⊎ (n ≡ all_ones w)) x
       → Reads s (data_space_sizes w dimensionality flags kind) p q
   unfolding data_space_sizes
@@ -105,12 +103,12 @@ module _ (s : List ℕ) (w : ℕ) where
 
   -- our tables: what stands before the sizes, and the sizes
   table1_stands : (p q : ℕ) (d : DataSpace) → p + 1 ≤ length s → le s p 1 ≤ 4 → p + 1 + 1 ≤ length s → bit (le s (p + 1) 1) 1 ≡ false → p + 1 + 1 + 1 ≤ length s → p + 1 + 1 + 1 + 4 ≤ length s
-      → Stands s (data_space_sizes w (le s p 1) (le s (p + 1) 1) options8.None) (p + 1 + 1 + 1 + 4) q d → Stands s (data_space1 w) p q d
+      → Stands s (data_space_sizes w (le s p 1) (le s (p + 1) 1) None) (p + 1 + 1 + 1 + 4) q d → Stands s (data_space1 w) p q d
   unfolding data_space1 data_space_sizes
   table1_stands p q d a n b f c e h = (a, rw (le-leb (le s p 1) 4 n) (b, rw f (c, (e, h))))
 
   table2_stands : (p q : ℕ) (d : DataSpace) → p + 1 ≤ length s → le s p 1 ≤ 4 → p + 1 + 1 ≤ length s → p + 1 + 1 + 1 ≤ length s
-      → Stands s (data_space_sizes w (le s p 1) (le s (p + 1) 1) (options8.Some (le s (p + 1 + 1) 1))) (p + 1 + 1 + 1) q d → Stands s (data_space2 w) p q d
+      → Stands s (data_space_sizes w (le s p 1) (le s (p + 1) 1) (Some (le s (p + 1 + 1) 1))) (p + 1 + 1 + 1) q d → Stands s (data_space2 w) p q d
   unfolding data_space2 data_space_sizes
   table2_stands p q d a n b c h = (a, rw (le-leb (le s p 1) 4 n) (b, (c, h)))
 
@@ -127,7 +125,7 @@ module _ (s : List ℕ) (w : ℕ) where
       let a = rw (← g.3.1) at r in
       let e = none_stored (bit flags 1) n d.0 g.0 g.1 g.2 a.no_permutation in
       let u : d.0 ≡ q = omega (arith, e.1, g.3.0) in
-      let m = rest_read n flags options8.None (p + 1 + 1 + 1 + 1 + 4) b.0 q b.1 d.1 b.2 (rw u at d.2) a.sizes a.maximum_sizes_lem in
+      let m = rest_read n flags None (p + 1 + 1 + 1 + 1 + 4) b.0 q b.1 d.1 b.2 (rw u at d.2) a.sizes a.maximum_sizes_lem in
       (m.0, table1_stands (p + 1) q m.0 c.1.0 a.few c.1.1.0 e.0 c.1.1.1.0 c.1.1.1.1.0 m.1)
 
   table2_read : (p q : ℕ) (x : Dataspace2) → Stands s (dataspace2 w) p q x → ReadSpace w (version_2 x) → Reads s (data_space2 w) (p + 1) q
@@ -139,7 +137,7 @@ module _ (s : List ℕ) (w : ℕ) where
       let b = stands_bind s (many n (number w done)) _ (p + 1 + 1 + 1 + 1) q x c.1.1.1.1 in
       let d = stands_bind s (stored_sizes (bit flags 0) n w) _ b.0 q x b.3 in
       let a = rw (← d.3.1) at r in
-      let m = rest_read n flags (options8.Some (le s (p + 1 + 1 + 1) 1)) (p + 1 + 1 + 1 + 1) b.0 q b.1 d.1 b.2 (rw d.3.0 at d.2) a.sizes a.maximum_sizes_lem in
+      let m = rest_read n flags (Some (le s (p + 1 + 1 + 1) 1)) (p + 1 + 1 + 1 + 1) b.0 q b.1 d.1 b.2 (rw d.3.0 at d.2) a.sizes a.maximum_sizes_lem in
       (m.0, table2_stands (p + 1) q m.0 c.1.0 a.few c.1.1.0 c.1.1.1.0 m.1)
 
 -- the version, and the table of that version

@@ -1,17 +1,10 @@
 -- What the record of a message that is read has of the specification's message. Entries are those of docs/DIFFERENCES.md, part one.
 -- Assumes nothing: these are definitions.
-use Rattle.std.specs.Prelude.{ℕ, ◌%◌, ◌<◌, ◌≡◌, ◌⊎◌, Bool, true, false, List, length, take}
+use Rattle.std.specs.Prelude.{ℕ, ◌%◌, ◌<◌, ◌≡◌, ◌⊎◌, Bool, true, false, List, length, take, Option, Some, None}
 use Rattle.records.specs.Defaults.{no_dimensions, empty_part}
 use Rattle.records.specs.Elements.{count_of}
-use Rattle.records.specs.declared.OptionU8.TheVariants as options8
-use Rattle.records.specs.declared.OptionU16.{OptionU16}
-use Rattle.records.specs.declared.OptionU16.TheVariants as options16
-use Rattle.records.specs.declared.OptionU64.{OptionU64}
-use Rattle.records.specs.declared.OptionU64.TheVariants as options64
 use Rattle.records.specs.declared.Address.{Address}
 use Rattle.records.specs.declared.Address.TheVariants as addresses
-use Rattle.records.specs.declared.OptionAddress.{OptionAddress}
-use Rattle.records.specs.declared.OptionAddress.TheVariants as option_addresses
 use Rattle.records.specs.declared.Dimensions.{Dimensions}
 use Rattle.records.specs.declared.DataSpace.{DataSpace}
 use Rattle.records.specs.declared.LinkInfo.{LinkInfo}
@@ -39,9 +32,9 @@ address_in standard.undefined = addresses.Undefined
 address_in (standard.defined n) = addresses.Number n
 
 -- the same field, missing or there; and one that is the number zero where it is missing
-abbrev pub option_address : Optional standard.Address → OptionAddress
-option_address absent = option_addresses.None
-option_address (present a) = option_addresses.Some (address_in a)
+abbrev pub option_address : Optional standard.Address → Option Address
+option_address absent = None
+option_address (present a) = Some (address_in a)
 
 abbrev pub or_zero_address : Optional standard.Address → Address
 or_zero_address absent = addresses.Number 0
@@ -53,13 +46,13 @@ pub record SameAddress (test : Bool) (a : Address) (o : Optional standard.Addres
   pub some : some_address test a ≡ option_address o
 
 -- the same field, missing or there
-abbrev pub option16 : Optional ℕ → OptionU16
-option16 absent = options16.None
-option16 (present n) = options16.Some n
+abbrev pub option16 : Optional ℕ → Option ℕ
+option16 absent = None
+option16 (present n) = Some n
 
-abbrev pub option64 : Optional ℕ → OptionU64
-option64 absent = options64.None
-option64 (present n) = options64.Some n
+abbrev pub option64 : Optional ℕ → Option ℕ
+option64 absent = None
+option64 (present n) = Some n
 
 -- a field that is zero where it is missing
 abbrev pub or_zero : Optional ℕ → ℕ
@@ -86,7 +79,7 @@ SameMaximum ours (stored sizes) = SameSizes ours sizes
 pub record SameDataspace1 (ours : DataSpace) (theirs : Dataspace1) : Type 0 where
   pub dimensionality : ours.dimensionality ≡ theirs.dimensionality
   pub flags : ours.flags ≡ theirs.flags
-  pub no_type : ours.kind ≡ options8.None
+  pub no_type : ours.kind ≡ None
   pub dimension_size : SameSizes ours.dimension_size theirs.dimension_size
   pub dimension_maximum_size : SameMaximum ours.dimension_max_size theirs.dimension_maximum_size
   pub no_permutation_index : theirs.permutation_index ≡ not_stored
@@ -96,7 +89,7 @@ pub record SameDataspace1 (ours : DataSpace) (theirs : Dataspace1) : Type 0 wher
 pub record SameDataspace2 (ours : DataSpace) (theirs : Dataspace2) : Type 0 where
   pub dimensionality : ours.dimensionality ≡ theirs.dimensionality
   pub flags : ours.flags ≡ theirs.flags
-  pub type : ours.kind ≡ options8.Some theirs.type
+  pub type : ours.kind ≡ Some theirs.type
   pub dimension_size : SameSizes ours.dimension_size theirs.dimension_size
   pub dimension_maximum_size : SameMaximum ours.dimension_max_size theirs.dimension_maximum_size
   pub elements : ElementsDiffer (version_2 theirs) ⊎ (ours.elements ≡ count_of (elements (version_2 theirs)))
@@ -142,7 +135,7 @@ pub record SameContinuation (ours : Continuation) (theirs : ContinuationMessage)
 -- IV.A.2.i, contiguous storage: the address, and the raw data. Where the address is undefined there are none; where it is 0 (entry 43), or at or
 -- past the end-of-file address (44), none are handed out.
 pub record SameContiguous (s : State) (ours : DataLayout) (theirs : ContiguousStorage) : Type 0 where
-  pub address : ours.address ≡ option_addresses.Some (address_in theirs.address)
+  pub address : ours.address ≡ Some (address_in theirs.address)
   pub raw_data : (a : ℕ) → theirs.address ≡ standard.defined a → address_valid s a ≡ true → 0 < theirs.size → ours.«data» ≡ record { position = a; length = theirs.size }
   pub no_size : theirs.size ≡ 0 → ours.«data» ≡ empty_part
   pub undefined : theirs.address ≡ standard.undefined → ours.«data» ≡ empty_part
@@ -150,7 +143,7 @@ pub record SameContiguous (s : State) (ours : DataLayout) (theirs : ContiguousSt
 
 -- compact storage: its raw data are not handed out (entry 41), and have no address
 abbrev pub SameProperties : State → DataLayout → LayoutProperties → Type 0
-SameProperties s ours (storages.compact c) = ours ≡ record { address = option_addresses.None; «data» = empty_part }
+SameProperties s ours (storages.compact c) = ours ≡ record { address = None; «data» = empty_part }
 SameProperties s ours (storages.contiguous c) = SameContiguous s ours c
 
 abbrev pub SameLayout : State → DataLayout → DataLayout3 → Type 0

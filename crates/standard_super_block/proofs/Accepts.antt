@@ -1,11 +1,11 @@
 -- A plain file of the specification, superblock and root header, that no listed limit or refusal turns back passes the check, and is accepted, with
 -- exactly its header's messages. Assumes nothing.
-use Rattle.std.specs.Prelude.{ℕ, ◌≡◌, List, length}
+use Rattle.std.specs.Prelude.{ℕ, ◌≡◌, List, length, Result, Ok}
 use Rattle.std.proofs.Common.{sym, ◌∙◌}
 use Rattle.format.specs.Format.{Stands, Out}
+use Rattle.records.specs.declared.Refusal.{Refusal}
 use Rattle.super_block.specs.declared.SuperBlock.{SuperBlock}
-use Rattle.data_object_check.specs.declared.CheckAnswer.{CheckAnswer}
-use Rattle.data_object_check.specs.declared.CheckAnswer.TheVariants as checks
+use Rattle.data_object_check.specs.declared.HeaderFigures.{HeaderFigures}
 use Rattle.data_object_check.specs.Checked.{Checked}
 use Rattle.data_object_words.specs.Handed.{Handed}
 use Rattle.data_object_root.specs.Root.{HandedBy, HandedRoot, CheckedBy, CheckedRoot}
@@ -36,8 +36,8 @@ module _ (file : List ℕ) (q : ℕ) (x : Superblock) (h : Stands file superbloc
   by_answer : (P : Out SuperBlock → Type 0) {u v : Out SuperBlock} → u ≡ v → P u → P v
   by_answer P e d = rw (← e) d
 
-  pub root_passes : (o : CheckedRootHeader file r xs) (a : CheckAnswer) → CheckedRoot file a
-      → a ≡ checks.Passed (record { next = next_after o.header; entries = length xs; rows = length (no_continuations xs) })
+  pub root_passes : (o : CheckedRootHeader file r xs) (a : Result HeaderFigures Refusal) → CheckedRoot file a
+      → a ≡ Ok (record { next = next_after o.header; entries = length xs; rows = length (no_continuations xs) })
   root_passes o a d =
       let b = superblock_is_read file q x h r in
       header_passes file x.size_of_offsets x.size_of_lengths r.end_of_file r.root xs o a

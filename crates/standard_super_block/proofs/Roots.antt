@@ -1,16 +1,15 @@
 -- What is handed over of a plain file is its root's header as the specification has it: the header at the address, and read with the widths, that
 -- the fields of the superblock name. Assumes nothing.
-use Rattle.std.specs.Prelude.{ℕ, ◌≤◌, ◌≡◌, refl, List, get_or}
+use Rattle.std.specs.Prelude.{ℕ, ◌≤◌, ◌≡◌, refl, List, get_or, Result, Ok, Err}
 use Rattle.std.proofs.Common.{ap, ◌∙◌}
 use Rattle.format.specs.Format.{Out, found, refused}
 use Rattle.format.specs.Laws.{sound}
 use Rattle.records.specs.RefusalLaws.{refusal_positive}
+use Rattle.records.specs.declared.Refusal.{Refusal}
 use Rattle.super_block.specs.declared.SuperBlock.{SuperBlock}
 use Rattle.super_block.specs.SuperBlocks.{super_block, super_block_of}
 use Rattle.super_block.specs.Laws.{super_block_read}
 use Rattle.super_block.specs.RefusalLaws.{refusal_not_0}
-use Rattle.data_object.specs.declared.Answer.{Answer}
-use Rattle.data_object.specs.declared.Answer.TheVariants as answers
 use Rattle.data_object_words.specs.Handed.{Handed}
 use Rattle.data_object_root.specs.Root.{HandedBy, HandedRoot}
 use Rattle.standard_header.proofs.Handed.{decoded_standard}
@@ -26,8 +25,8 @@ module _ (file : List ℕ) (n longest : ℕ) (t w : List ℕ) where
     where
       by_answer : (b : SuperBlock) (q : ℕ) → super_block_of file ≡ found b q
           → (d : Handed file b.size_of_offsets b.size_of_lengths b.end_of_file_address b.root_group_object_header_address n t w)
-          → (a : Answer) → d.object.answer ≡ a → RootIs file n longest t w
-      by_answer b q e d (answers.Read next count) f =
+          → (a : Result (ℕ × ℕ) Refusal) → d.object.answer ≡ a → RootIs file n longest t w
+      by_answer b q e d (Ok (next, count)) f =
           let x = super_block_tied.ties file 0 q b (sound file super_block 0 q b (super_block_read file e).1) in
           let r = x.related in
           record {
@@ -48,7 +47,7 @@ module _ (file : List ℕ) (n longest : ℕ) (t w : List ℕ) where
                 rw (← r.size_of_offsets, ← r.size_of_lengths)
                 (decoded_standard file b.size_of_offsets b.size_of_lengths b.end_of_file_address b.root_group_object_header_address n longest enough d.object t d.decoded next count f);
           }
-      by_answer b q e d (answers.Refused y) f = absurd (refusal_positive y (rw (d.words, f) at z))
+      by_answer b q e d (Err y) f = absurd (refusal_positive y (rw (d.words, f) at z))
 
       by_block : (o : Out SuperBlock) → super_block_of file ≡ o → HandedBy file n t w o → RootIs file n longest t w
       by_block (found b q) e d = by_answer b q e d d.object.answer refl

@@ -1,16 +1,16 @@
 -- The first 576 bytes of `tester.sofa`, a SOFA file of libmysofa's tests that the HDF5 library wrote, are a superblock and a root header of the
 -- specification of which the conditions hold; so a file of these bytes passes the check, and is accepted. Assumes nothing.
-use Rattle.std.specs.Prelude.{ℕ, ◌+◌, ◌≡◌, refl, List, [], ◌∷◌, ◌++◌, replicate}
+use Rattle.std.specs.Prelude.{ℕ, ◌+◌, ◌≡◌, refl, List, [], ◌∷◌, ◌++◌, replicate, Result, Ok}
 use Rattle.std.proofs.Common.{arith}
 use Rattle.std.specs.Int.Bits.{bit_and}
 use Rattle.format.specs.Bytes.{le}
 use Rattle.format.specs.Format.{Stands, bind, read}
 use Rattle.format.specs.Laws.{sound}
+use Rattle.records.specs.declared.Refusal.{Refusal}
 use Rattle.parser.specs.declared.State.{State}
 use Rattle.parser.specs.States.{state_for}
 use Rattle.lookup3.specs.Lookup3.{plus, minus, rotate, mix_line, mix, final_line, final_mix, add_block, blocks, sum_of}
-use Rattle.data_object_check.specs.declared.CheckAnswer.{CheckAnswer}
-use Rattle.data_object_check.specs.declared.CheckAnswer.TheVariants as checks
+use Rattle.data_object_check.specs.declared.HeaderFigures.{HeaderFigures}
 use Rattle.data_object_root.specs.Root.{CheckedRoot}
 use Rattle.standard.specs.Fields.{present, undefined, defined, optional, address, optional_address, raw}
 use Rattle.standard.specs.Headers.{HeaderMessage, object_header_prefix, message_prefix, header_message}
@@ -152,6 +152,6 @@ pub a_root_that_is_accepted : ReadRootHeader tester a_superblock_that_is_read te
 a_root_that_is_accepted = record { checked = its_root; room = omega arith }
 
 -- and so every answer of the check is this one
-pub tester_passes : (a : CheckAnswer) → CheckedRoot tester a → a ≡ checks.Passed (record { next = 576; entries = 4; rows = 4 })
+pub tester_passes : (a : Result HeaderFigures Refusal) → CheckedRoot tester a → a ≡ Ok (record { next = 576; entries = 4; rows = 4 })
 unfolding its_header its_root
 tester_passes a c = root_passes tester 48 superblock a_superblock_stands a_superblock_that_is_read tester_messages its_root a c

@@ -1,8 +1,7 @@
 -- What a plain file that is accepted is, in the words of the specification: its superblock, and the header at its root address.
 -- Assumes nothing: these are definitions.
-use Rattle.std.specs.Prelude.{ℕ, ◌≡◌, List}
+use Rattle.std.specs.Prelude.{ℕ, ◌≡◌, List, Ok}
 use Rattle.format.specs.Format.{Stands}
-use Rattle.data_object.specs.declared.Answer.TheVariants as answers
 use Rattle.data_object.specs.declared.DataObject.{DataObject}
 use Rattle.data_object_words.specs.Words.{words_of}
 use Rattle.standard.specs.Fields.{defined}
@@ -28,5 +27,5 @@ module _ (file : List ℕ) (n longest : ℕ) (t w : List ℕ) where
     pub words : w ≡ words_of object
     pub next : ℕ
     pub count : ℕ
-    pub answer : object.answer ≡ answers.Read next count
+    pub answer : object.answer ≡ Ok (next, count)
     pub header : Standard file superblock.size_of_offsets superblock.size_of_lengths end_of_file root n longest next count object t

@@ -1,6 +1,6 @@
 -- The test of the version, and what a superblock that is read has passed: the file's size, the tests of its widths, and that of its checksum.
 -- Assumes nothing.
-use Rattle.std.specs.Prelude.{ℕ, zero, suc, ◌+◌, ◌-◌, ◌≤◌, ◌≡◌, Bool, ◌&&◌, ◌||◌, List, length, leb}
+use Rattle.std.specs.Prelude.{ℕ, zero, suc, ◌+◌, ◌-◌, ◌≤◌, ◌≡◌, Bool, ◌&&◌, ◌||◌, List, length, leb, Result, Ok, Err}
 use Rattle.std.proofs.Math.Path.{refl, ap}
 use Rattle.std.proofs.Common.{sym, ◌∙◌, arith, leb-true, ne_eqb}
 use Rattle.std.proofs.Math.Bool.{true, false}
@@ -11,15 +11,15 @@ use Rattle.format.specs.Covers.{forward, inside}
 use Rattle.format.specs.Format.{Stands, Out, found, refused, pick, read}
 use Rattle.format.specs.Laws.{sound, never}
 use Rattle.format.specs.Standing.{stands_bind, stands_check}
+use Rattle.helpers.specs.Answers.{out}
 use Rattle.helpers.specs.Addresses.{address, defined_address}
+use Rattle.records.specs.declared.Refusal.{Refusal}
 use Rattle.lookup3.specs.Lookup3.{sum_matches}
 use Rattle.parser.specs.States.{file_limit, width_allowed}
 use Rattle.parser.specs.StateLaws.{widths_of}
 use Rattle.super_block.specs.declared.SuperBlock.{SuperBlock}
-use Rattle.super_block.specs.declared.SuperBlockRead.{SuperBlockRead}
-use Rattle.super_block.specs.declared.SuperBlockRead.TheVariants as blocks
 use Rattle.super_block.specs.SuperBlocks.{addresses, format_signature_lem, super_block, summed, super_block_of}
-use Rattle.super_block.specs.Answers.{super_block_out, WidthsRead}
+use Rattle.super_block.specs.Answers.{WidthsRead}
 
 -- the versions that are known are those from 2 to 3
 pub version_other : (v : ℕ) → (v ≡ 2 → ⊥) → (v ≡ 3 → ⊥) → eqb v 2 || eqb v 3 ≡ false
@@ -88,13 +88,13 @@ module _ (s : List ℕ) where
       (forward s (addresses (le s 9 1) (le s 10 1)) 12 q b (behind q b h).2, inside s super_block 0 q b h (omega arith))
 
   -- so of an answer that is the superblock's
-  widths_read : (r : SuperBlockRead) → super_block_out r ≡ super_block_of s → WidthsRead r
-  widths_read (blocks.Read b q) e =
+  widths_read : (r : Result (SuperBlock × ℕ) Refusal) → out r ≡ super_block_of s → WidthsRead r
+  widths_read (Ok (b, q)) e =
       let h = sound s super_block 0 q b (super_block_read (sym e)).1 in
       widths_of b.size_of_offsets b.size_of_lengths b.end_of_file_address (stood_widths q b h)
-  widths_read (blocks.Refused x) e = tt
+  widths_read (Err x) e = tt
 
-  pub with_widths : (r : SuperBlockRead) → super_block_out r ≡ super_block_of s → (super_block_out r ≡ super_block_of s) × WidthsRead r
+  pub with_widths : (r : Result (SuperBlock × ℕ) Refusal) → out r ≡ super_block_of s → (out r ≡ super_block_of s) × WidthsRead r
   with_widths r e = (e, widths_read r e)
 
 -- a width that has passed its test is at most 8

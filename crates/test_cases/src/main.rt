@@ -6,23 +6,14 @@
 
 use std::io;
 use test_replayer::Against;
-use test_runner::{run_file, tell};
-
-fn run_headers(rt: &HostRuntime, buf: &mut [u8]) -> io::Result<()> {
-    let cases = run_file(rt, Against::HeaderListing, b"cases", buf);
-    tell(rt, b"cases", cases)?;
-    let messages = run_file(rt, Against::Report, b"messages", buf);
-    tell(rt, b"messages", messages)?;
-    let numbers = run_file(rt, Against::Numbers, b"numbers", buf);
-    tell(rt, b"numbers", numbers)
-}
+use test_runner::report;
 
 fn run_files(rt: &HostRuntime, buf: &mut [u8]) -> io::Result<()> {
-    let files = run_file(rt, Against::Listing, b"files", buf);
-    tell(rt, b"files", files)?;
-    run_headers(rt, buf)?;
-    let sums = run_file(rt, Against::Sum, b"sums", buf);
-    tell(rt, b"sums", sums)
+    report(rt, Against::Listing, b"files", buf)?;
+    report(rt, Against::HeaderListing, b"cases", buf)?;
+    report(rt, Against::Report, b"messages", buf)?;
+    report(rt, Against::Numbers, b"numbers", buf)?;
+    report(rt, Against::Sum, b"sums", buf)
 }
 
 fn main(rt: HostRuntime) -> io::Result<()> {

@@ -1,5 +1,5 @@
 -- The line of a check. Assumes nothing: these are definitions.
-use Rattle.std.specs.Prelude.{ℕ, Bool, true, List, [], ◌∷◌, ◌++◌}
+use Rattle.std.specs.Prelude.{ℕ, Bool, Some, List, [], ◌∷◌, ◌++◌}
 use Rattle.format.specs.Format.{Out, found, refused}
 use Rattle.text.specs.Text.{field}
 use Rattle.data_object_check.specs.declared.HeaderFigures.{HeaderFigures}
@@ -10,7 +10,7 @@ use Rattle.test_replayer.specs.Leads.{Compared}
 
 -- `checked,NEXT,ENTRIES,ROWS`; 44 is a comma and 10 ends the line
 unfoldable pub passed_line : HeaderFigures → List ℕ
-passed_line f = (99 ∷ 104 ∷ 101 ∷ 99 ∷ 107 ∷ 101 ∷ 100 ∷ 44 ∷ []) ++ (field true f.next 44 ++ (field true f.entries 44 ++ field true f.rows 10))
+passed_line f = (99 ∷ 104 ∷ 101 ∷ 99 ∷ 107 ∷ 101 ∷ 100 ∷ 44 ∷ []) ++ (field (Some f.next) 44 ++ (field (Some f.entries) 44 ++ field (Some f.rows) 10))
 
 -- or `refused,N`
 unfoldable pub check_line : Out HeaderFigures → List ℕ

@@ -2,8 +2,6 @@
 use Rattle.std.specs.Prelude.{ℕ, ◌≡◌, Bool, true, false, List, drop}
 use Rattle.format.specs.Format.{Format, done, number, Out, found, refused, read}
 use Rattle.test_replayer.specs.declared.Lead.{Lead}
-use Rattle.test_replayer.specs.declared.LeadRead.{LeadRead}
-use Rattle.test_replayer.specs.declared.LeadRead.TheVariants as leads
 
 -- the 18 lead bytes: widths of offsets and lengths, end-of-file address, header position; where they are fewer, reading is 3
 unfoldable pub lead : Format Lead
@@ -13,10 +11,6 @@ lead =
     number 8 (λ end.
     number 8 (λ position.
     done {A = Lead} (record { offsets = offsets; lengths = lengths; end_of_file = end; position = position })))))
-
-abbrev pub lead_out : LeadRead → Out Lead
-lead_out (leads.Read l q) = found l q
-lead_out leads.Short = refused 3
 
 -- P file l b: what it says of the file behind the lead that its case passed. An input with fewer than the lead bytes does not pass.
 module _ (P : List ℕ → Lead → Bool → Type 0) (input : List ℕ) (b : Bool) where

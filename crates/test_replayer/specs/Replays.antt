@@ -1,9 +1,10 @@
 -- What it says that a stored answer is given. Assumes nothing: these are definitions.
 use Rattle.std.specs.Prelude.{ℕ, ◌*◌, Bool, List}
-use Rattle.format.specs.Format.{pick}
 use Rattle.row.specs.Rows.{row_words}
 use Rattle.data_object_words.specs.Handed.{Handed}
 use Rattle.test_report.specs.Report.{report_of, numbers_of}
+use Rattle.test_replayer.specs.declared.DecodedText.{DecodedText}
+use Rattle.test_replayer.specs.declared.DecodedText.TheVariants as decodeds
 use Rattle.test_replayer.specs.declared.Lead.{Lead}
 use Rattle.test_replayer.specs.Leads.{Compared}
 
@@ -14,6 +15,7 @@ pub record Replays (text : List ℕ → List ℕ → List ℕ) (expected file : 
   pub handed : Handed file l.offsets l.lengths l.end_of_file l.position (64 * row_words) table words
   pub says : Compared (text table words) expected b
 
--- the numbers of the rows, or the report
-abbrev pub text_of : Bool → List ℕ → List ℕ → List ℕ → List ℕ
-text_of numbers file table words = pick numbers (numbers_of table words) (report_of file table words)
+-- the report, or the numbers of the rows
+abbrev pub text_of : DecodedText → List ℕ → List ℕ → List ℕ → List ℕ
+text_of decodeds.Report file table words = report_of file table words
+text_of decodeds.Numbers file table words = numbers_of table words

@@ -6,20 +6,22 @@ ghost use Rattle.std.specs.Prelude.{◌≡◌, ◌/◌, ◌≤◌, length, get_o
 ghost use Rattle.format.specs.Format.{read};
 ghost use Rattle.row.specs.Rows.{row_words};
 ghost use Rattle.text.specs.Text.{Wrote};
+ghost use Rattle.helpers.specs.Answers.{out};
 ghost use Rattle.data_object_check.specs.Checked.{check_out};
 ghost use Rattle.test_report.specs.Follows.{Follows, start};
 ghost use Rattle.test_replayer.specs.Checks.{passed_line, check_line, Checks};
-ghost use Rattle.test_replayer.specs.Leads.{lead as lead_format, lead_out};
+ghost use Rattle.test_replayer.specs.Leads.{lead as lead_format};
 ghost use Rattle.test_replayer.specs.Passes.{Lists, ListsHeader, HeaderSays, Sums, Says};
 ghost use Rattle.test_replayer.specs.Replays.{Replays, text_of};
 
-use data_object_check::{CheckAnswer, HeaderFigures, check_data_object};
+use data_object_check::{HeaderFigures, check_data_object};
 use data_object_words::header_words;
-use helpers::{ReadU8, ReadU64, bytes_4, le_u8, le_u64};
+use helpers::{Parsed, bytes_4, le_u8, le_u64};
 use listing_text::{list, list_header, put_refused};
 use lookup3::lookup3;
+use records::Refusal;
 use row::ROW_WORDS;
-use test_report::{Matched, ends, expect_numbers, expect_report};
+use test_report::{ends, expect_numbers, expect_report};
 
 // What is expected of an input: the listing of a plain file; of a header in a file behind the
 // values that are given by hand, its listing with the line of its check, its report, or its
@@ -41,6 +43,13 @@ pub enum HeaderText {
     Numbers,
 }
 
+// Those of its words and its table.
+#[derive(Drop)]
+pub enum DecodedText {
+    Report,
+    Numbers,
+}
+
 // What is given by hand, before the file: the widths of offsets and lengths, the end-of-file address
 // and the position of the header.
 #[derive(Drop)]
@@ -51,35 +60,20 @@ pub struct Lead {
     pub position: u64,
 }
 
-// The lead bytes and where the file begins, or too few of them.
-#[derive(Drop)]
-pub enum LeadRead {
-    Read(Lead, usize),
-    Short,
-}
-
-fn read_lead(input: &[u8]) -> LeadRead
-    ensures { lead_out result ≡ read input.now lead_format 0 }
+fn read_lead(input: &[u8]) -> Parsed<Lead>
+    ensures { out result ≡ read input.now lead_format 0 }
 {
-    let ReadU8::Value(offsets, at) = le_u8(input, 0) else {
-        return LeadRead::Short;
-    };
-    let ReadU8::Value(lengths, at) = le_u8(input, at) else {
-        return LeadRead::Short;
-    };
-    let ReadU64::Value(end_of_file, at) = le_u64(input, at) else {
-        return LeadRead::Short;
-    };
-    let ReadU64::Value(position, at) = le_u64(input, at) else {
-        return LeadRead::Short;
-    };
+    let (offsets, at) = le_u8(input, 0)?;
+    let (lengths, at) = le_u8(input, at)?;
+    let (end_of_file, at) = le_u64(input, at)?;
+    let (position, at) = le_u64(input, at)?;
     let lead = Lead {
         offsets,
         lengths,
         end_of_file,
         position,
     };
-    LeadRead::Read(lead, at)
+    Ok((lead, at))
 }
 
 // Whether a plain file has the listing that is expected.
@@ -88,7 +82,7 @@ fn lists(input: &[u8], expected: &[u8]) -> bool
 {
     let mut out = [0u8; 98304];
     let n = list(input, &mut out);
-    check::same(&out[..n], expected)
+    &out[..n] == expected
 }
 
 // What a check that passes tells: a word and the three figures.
@@ -97,19 +91,19 @@ fn put_passed(out: &mut [u8], figures: HeaderFigures) -> usize
     ensures { Wrote out.old 0 out.new result (passed_line figures) }
 {
     let at = text::put_text(out, 0, b"checked,");
-    let at = text::put_field(out, at, true, figures.next as u64, b',');
-    let at = text::put_field(out, at, true, figures.entries as u64, b',');
-    text::put_field(out, at, true, figures.rows as u64, b'\n')
+    let at = text::put_field(out, at, Some(figures.next as u64), b',');
+    let at = text::put_field(out, at, Some(figures.entries as u64), b',');
+    text::put_field(out, at, Some(figures.rows as u64), b'\n')
 }
 
 // The line of a check, put at the start of out; the answer is its length.
-fn put_checked(out: &mut [u8], answer: CheckAnswer) -> usize
+fn put_checked(out: &mut [u8], answer: Result<HeaderFigures, Refusal>) -> usize
     requires { 71 ≤ length out.old }
     ensures { Wrote out.old 0 out.new result (check_line (check_out answer)) }
 {
     match answer {
-        CheckAnswer::Passed(figures) => put_passed(out, figures),
-        CheckAnswer::Refused(refusal) => {
+        Ok(figures) => put_passed(out, figures),
+        Err(refusal) => {
             let number = refusal.number();
             put_refused(out, number)
         }
@@ -129,7 +123,7 @@ fn checks(file: &[u8], lead: Lead, expected: &[u8]) -> bool
     );
     let mut line = [0u8; 71];
     let n = put_checked(&mut line, answer);
-    check::same(&line[..n], expected)
+    &line[..n] == expected
 }
 
 // Whether the header of a file has the listing, and behind it the line of its check, that are
@@ -146,36 +140,32 @@ fn lists_header(file: &[u8], lead: Lead, expected: &[u8]) -> bool
         lead.end_of_file,
         &mut out,
     );
-    if n <= expected.len() {
-        if check::same(&out[..n], &expected[..n]) {
-            return checks(file, lead, &expected[n..]);
-        }
+    match expected.strip_prefix(&out[..n]) {
+        Some(rest) => checks(file, lead, rest),
+        None => false,
     }
-    false
 }
 
-// How far the numbers of a decoded header, or else its report, stand at the start of what is
-// expected.
+// How far the text of a decoded header stands at the start of what is expected.
 fn expect_text(
-    numbers: bool,
+    text: DecodedText,
     expected: &[u8],
     file: &[u8],
     table: &[u64],
     words: &[u64; 65],
-) -> Matched
+) -> Option<usize>
     requires { get_or words.now 3 0 ≤ length table.now / row_words }
-    ensures { Follows expected.now start result (text_of numbers file.now table.now words.now) }
+    ensures { Follows expected.now start result (text_of text file.now table.now words.now) }
 {
-    if numbers {
-        return expect_numbers(expected, table, words);
+    match text {
+        DecodedText::Report => expect_report(expected, file, table, words),
+        DecodedText::Numbers => expect_numbers(expected, table, words),
     }
-    expect_report(expected, file, table, words)
 }
 
-// Whether the header of a file, decoded into a table of 64 rows, has the numbers, or else the
-// report, that are expected.
-fn replays(numbers: bool, file: &[u8], lead: Lead, expected: &[u8]) -> bool
-    ensures { Replays (text_of numbers file.now) expected.now file.now lead result }
+// Whether the header of a file, decoded into a table of 64 rows, has the text that is expected.
+fn replays(text: DecodedText, file: &[u8], lead: Lead, expected: &[u8]) -> bool
+    ensures { Replays (text_of text file.now) expected.now file.now lead result }
 {
     let mut table = [0u64; 64 * ROW_WORDS];
     let mut words = [0u64; 65];
@@ -188,7 +178,7 @@ fn replays(numbers: bool, file: &[u8], lead: Lead, expected: &[u8]) -> bool
         &mut table,
         &mut words,
     );
-    let reached = expect_text(numbers, expected, file, &table, &words);
+    let reached = expect_text(text, expected, file, &table, &words);
     ends(expected, reached)
 }
 
@@ -196,14 +186,14 @@ fn replays(numbers: bool, file: &[u8], lead: Lead, expected: &[u8]) -> bool
 fn passes_header(text: HeaderText, input: &[u8], expected: &[u8]) -> bool
     ensures { HeaderSays text input.now expected.now result }
 {
-    let LeadRead::Read(lead, start) = read_lead(input) else {
+    let Ok((lead, start)) = read_lead(input) else {
         return false;
     };
     let file = &input[start..];
     match text {
         HeaderText::Listing => lists_header(file, lead, expected),
-        HeaderText::Report => replays(false, file, lead, expected),
-        HeaderText::Numbers => replays(true, file, lead, expected),
+        HeaderText::Report => replays(DecodedText::Report, file, lead, expected),
+        HeaderText::Numbers => replays(DecodedText::Numbers, file, lead, expected),
     }
 }
 

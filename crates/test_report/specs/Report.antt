@@ -1,10 +1,8 @@
 -- The report of a decoded header: its words and its table as lines of text; and the numbers of its rows. Assumes nothing: these are definitions.
-use Rattle.std.specs.Prelude.{ℕ, zero, suc, ◌+◌, ◌-◌, true, false, List, [], ◌∷◌, ◌++◌, get_or, eqb}
+use Rattle.std.specs.Prelude.{ℕ, zero, suc, ◌+◌, ◌-◌, List, [], ◌∷◌, ◌++◌, get_or, eqb, Option, Some, None}
 use Rattle.format.specs.Format.{pick}
 use Rattle.text.specs.Text.{field}
 use Rattle.records.specs.declared.Part.{Part}
-use Rattle.records.specs.declared.OptionPart.{OptionPart}
-use Rattle.records.specs.declared.OptionPart.TheVariants as parts
 use Rattle.row.specs.declared.Row.{Row}
 use Rattle.row.specs.Rows.{first_rows}
 use Rattle.data_object.specs.Decoded.{bytes_of}
@@ -12,17 +10,17 @@ use Rattle.data_object.specs.Decoded.{bytes_of}
 -- In all of these 44 is a comma and 10 ends a line. What is absent is a hyphen.
 
 -- a part's length, a comma and its bytes; a hyphen and a comma where there is none
-unfoldable pub piece_of : List ℕ → OptionPart → List ℕ
-piece_of file (parts.Some p) = field true p.length 44 ++ bytes_of file p
-piece_of file parts.None = field false 0 44
+unfoldable pub piece_of : List ℕ → Option Part → List ℕ
+piece_of file (Some p) = field (Some p.length) 44 ++ bytes_of file p
+piece_of file None = field None 44
 
 -- `TYPE,FLAGS,SIZE,BODY,`
 unfoldable pub head_of : Row → List ℕ
 head_of r =
-    field true r.kind 44
-    ++ (field true r.flags 44
-    ++ (field true r.size 44
-    ++ field true r.body 44))
+    field (Some r.kind) 44
+    ++ (field (Some r.flags) 44
+    ++ (field (Some r.size) 44
+    ++ field (Some r.body) 44))
 
 -- and then `NAMELENGTH,NAMEBYTES,PARTLENGTH,PARTBYTES`
 unfoldable pub row_line : List ℕ → Row → List ℕ
@@ -39,16 +37,16 @@ row_lines file rs = lines_of (row_line file) rs
 
 -- `data,LENGTH,BYTES`
 unfoldable pub data_of : List ℕ → Part → List ℕ
-data_of file part = (100 ∷ 97 ∷ 116 ∷ 97 ∷ 44 ∷ []) ++ (piece_of file (parts.Some part) ++ (10 ∷ []))
+data_of file part = (100 ∷ 97 ∷ 116 ∷ 97 ∷ 44 ∷ []) ++ (piece_of file (Some part) ++ (10 ∷ []))
 
 -- the words from a place on, n of them, each with a comma
 unfoldable pub figures_of : List ℕ → ℕ → ℕ → List ℕ
 figures_of words first zero = []
-figures_of words first (suc n) = figures_of words first n ++ field true (get_or words (first + n) 0) 44
+figures_of words first (suc n) = figures_of words first n ++ field (Some (get_or words (first + n) 0)) 44
 
 -- `WORD,..,WORD`: from one place to another, the last among them
 unfoldable pub words_line : List ℕ → ℕ → ℕ → List ℕ
-words_line words first last = figures_of words first (last - first) ++ field true (get_or words last 0) 10
+words_line words first last = figures_of words first (last - first) ++ field (Some (get_or words last 0)) 10
 
 -- `dataspace,`, `datatype,`, `link_info,`, `group_info,` and `attribute_info,`, each with the words of the record, and `layout,` with those of its address
 unfoldable pub records_of : List ℕ → List ℕ
@@ -88,7 +86,7 @@ report_of file table words = told words (answer_of file table words)
 
 -- `CASE,BITS`: which number a row has, and its bits; zeros where it has none
 unfoldable pub number_line : Row → List ℕ
-number_line r = field true r.number_case 44 ++ field true r.number_bits 10
+number_line r = field (Some r.number_case) 44 ++ field (Some r.number_bits) 10
 
 -- and its numbers: those of each row
 unfoldable pub numbers_of : List ℕ → List ℕ → List ℕ

@@ -1,18 +1,9 @@
 -- A file of cases, and a run of them. Assumes nothing: these are definitions.
-use Rattle.std.specs.Prelude.{ℕ, ◌+◌, ◌≤◌, ◌<◌, ◌≡◌, ◌⊎◌, Bool, true, false, List, length, take, drop}
+use Rattle.std.specs.Prelude.{ℕ, ◌+◌, ◌≤◌, ◌<◌, ◌≡◌, ◌⊎◌, Bool, true, false, List, length, take, drop, Option, Some, None, Result, IfOk}
 use Rattle.format.specs.Bytes.{le}
-use Rattle.test_runner.specs.declared.PartEnd.{PartEnd}
-use Rattle.test_runner.specs.declared.PartEnd.TheVariants as ends
 use Rattle.test_runner.specs.declared.Case.{Case}
-use Rattle.test_runner.specs.declared.CaseRead.{CaseRead}
-use Rattle.test_runner.specs.declared.CaseRead.TheVariants as cases
-use Rattle.test_runner.specs.declared.Step.{Step}
-use Rattle.test_runner.specs.declared.Step.TheVariants as steps
 use Rattle.test_runner.specs.declared.Summary.{Summary}
-use Rattle.test_runner.specs.declared.Loaded.{Loaded}
-use Rattle.test_runner.specs.declared.Loaded.TheVariants as loads
-use Rattle.test_runner.specs.declared.FileRun.{FileRun}
-use Rattle.test_runner.specs.declared.FileRun.TheVariants as runs
+use Rattle.test_runner.specs.declared.NotRun.{NotRun}
 
 -- the end of the part at a position: its length in 4 bytes, and its bytes
 unfoldable pub part_end : List ℕ → ℕ → ℕ
@@ -22,9 +13,9 @@ part_end s at = at + 4 + le s at 4
 unfoldable pub part_bytes : List ℕ → ℕ → List ℕ
 part_bytes s at = take (le s at 4) (drop (at + 4) s)
 
-abbrev pub Ends : List ℕ → ℕ → PartEnd → Type 0
-Ends s at (ends.At e) = (e ≡ part_end s at) × (e ≤ length s)
-Ends s at ends.Damaged = length s < part_end s at
+abbrev pub Ends : List ℕ → ℕ → Option ℕ → Type 0
+Ends s at (Some e) = (e ≡ part_end s at) × (e ≤ length s)
+Ends s at None = length s < part_end s at
 
 -- of the case at a position: where its input and what is expected stand, and where it ends
 abbrev pub input_at : List ℕ → ℕ → ℕ
@@ -42,10 +33,17 @@ pub record CaseIs (s : List ℕ) (at : ℕ) (c : Case) : Type 0 where
   pub end : c.end ≡ case_end s at
   pub inside : c.end ≤ length s
 
+-- its parts lie in the file, one behind the other, each behind its length
+pub record InOrder (s : List ℕ) (at : ℕ) (c : Case) : Type 0 where
+  pub name : at + 4 ≤ c.name_end
+  pub input : c.name_end + 4 ≤ c.input_end
+  pub expected : c.input_end + 4 ≤ c.end
+  pub inside : c.end ≤ length s
+
 -- a case that is not in the file as a whole is damaged
-abbrev pub CaseOut : List ℕ → ℕ → CaseRead → Type 0
-CaseOut s at (cases.Read c) = CaseIs s at c
-CaseOut s at cases.Damaged = length s < case_end s at
+abbrev pub CaseOut : List ℕ → ℕ → Option Case → Type 0
+CaseOut s at (Some c) = CaseIs s at c
+CaseOut s at None = length s < case_end s at
 
 -- a case more, which passed or failed
 abbrev pub counted : Summary → Bool → Summary
@@ -58,9 +56,9 @@ module _ (P : List ℕ → List ℕ → Bool → Type 0) (s : List ℕ) where
   abbrev pub Judged : ℕ → Bool → Type 0
   Judged at b = P (part_bytes s (input_at s at)) (part_bytes s (expected_at s at)) b
 
-  abbrev pub StepIs : ℕ → Step → Type 0
-  StepIs at (steps.Ran b c) = CaseIs s at c × Judged at b
-  StepIs at steps.Damaged = length s < case_end s at
+  abbrev pub StepIs : ℕ → Option (Bool × Case) → Type 0
+  StepIs at (Some (b, c)) = CaseIs s at c × Judged at b
+  StepIs at None = length s < case_end s at
 
   -- the cases from the start up to a position, each judged, and their count
   pub data Ran : ℕ → Summary → Type 0 where
@@ -77,10 +75,8 @@ module _ (P : List ℕ → List ℕ → Bool → Type 0) (s : List ℕ) where
         ⊎ ((stop < length s) × (length s < case_end s stop) × (r ≡ record { run = tally.run; failed = tally.failed; whole = false }))
 
 -- a file that was loaded leaves a byte of the buffer free
-abbrev pub Loads : Loaded → List ℕ → Type 0
-Loads (loads.Whole n) buf = n < length buf
-Loads loads.TooLong buf = Unit {0}
-Loads loads.Failed buf = Unit {0}
+abbrev pub Loads : Result ℕ NotRun → List ℕ → Type 0
+Loads r buf = IfOk r (λ n. n < length buf)
 
 -- the run of a file that was loaded is that of the bytes at the start of the buffer
 module _ (P : List ℕ → List ℕ → Bool → Type 0) (buf : List ℕ) where
@@ -89,7 +85,5 @@ module _ (P : List ℕ → List ℕ → Bool → Type 0) (buf : List ℕ) where
     pub free : count < length buf
     pub tallied : Tallied P (take count buf) r
 
-  abbrev pub RunOf : FileRun → Type 0
-  RunOf (runs.Ran r) = LoadedRun r
-  RunOf runs.TooLong = Unit {0}
-  RunOf runs.Failed = Unit {0}
+  abbrev pub RunOf : Result Summary NotRun → Type 0
+  RunOf r = IfOk r LoadedRun

@@ -1,14 +1,18 @@
 -- Laws of a file of cases. Assumes nothing.
-use Rattle.std.specs.Prelude.{ℕ, ◌+◌, ◌-◌, ◌≤◌, ◌<◌, ◌≡◌, refl, List, drop}
+use Rattle.std.specs.Prelude.{ℕ, ◌+◌, ◌-◌, ◌≤◌, ◌<◌, ◌≡◌, refl, List, drop, Result, Ok, Err, Some, None}
 use Rattle.std.proofs.Common.{sym, ◌∙◌}
 use Rattle.std.proofs.Math.Path.{ap}
 use native.Mathlib.Omega.{arith}
 use Rattle.std.proofs.Math.ListN.{length, take}
+use Rattle.std.specs.Result.{result_ok}
+use Rattle.records.specs.declared.Refusal.{Refusal}
+use Rattle.records.specs.Refusals.{refusal_number}
+use Rattle.helpers.specs.Answers.{out}
 use Rattle.format.specs.Bytes.{le}
-use Rattle.format.specs.Format.{done, number, found, refused, read}
+use Rattle.format.specs.Format.{done, number, read}
 use Rattle.format.specs.Laws.{sound, none}
 use Rattle.test_runner.specs.declared.Case.{Case}
-use Rattle.test_runner.specs.Cases.{part_end, part_bytes, input_at, expected_at, case_end, CaseIs}
+use Rattle.test_runner.specs.Cases.{part_end, part_bytes, input_at, expected_at, case_end, CaseIs, InOrder}
 
 module _ (s : List ℕ) (at : ℕ) where
   pub part_later : at + 4 ≤ part_end s at
@@ -21,14 +25,21 @@ module _ (s : List ℕ) (at : ℕ) where
   part_is e h = let n : e - (at + 4) ≡ le s at 4 = omega arith in ap (λ (k : ℕ). take k (drop (at + 4) s)) n
 
   -- a length that is read, or not
-  pub length-read : (v q : ℕ) → found v q ≡ read s (number 4 done) at → (q + v ≡ part_end s at) × (q ≤ length s)
+  pub length-read : (r : Result (ℕ × ℕ) Refusal) (v q : ℕ) → out r ≡ read s (number 4 done) at → result_ok r ≡ Some (v, q) → (q + v ≡ part_end s at) × (q ≤ length s)
   unfolding part_end
-  length-read v q e = let h = sound s (number 4 done) at q v (sym e) in (omega (arith, h.1.0, h.1.1), omega (arith, h.0, h.1.0))
+  length-read (Ok (x, p)) v q e f =
+      let both : ◌≡◌ {A = ℕ × ℕ} (x, p) (v, q) = cc in
+      let g : x ≡ v = ap (λ (w : ℕ × ℕ). w.0) both in
+      let k : p ≡ q = ap (λ (w : ℕ × ℕ). w.1) both in
+      let h = sound s (number 4 done) at p x (sym e) in
+      (omega (arith, h.1.0, h.1.1, g, k), omega (arith, h.0, h.1.0, k))
+  length-read (Err x) v q e f = let z : ⊥ = cc in absurd z
 
-  pub length-short : refused 3 ≡ read s (number 4 done) at → length s < part_end s at
+  pub length-short : (r : Result (ℕ × ℕ) Refusal) → out r ≡ read s (number 4 done) at → result_ok r ≡ None → length s < part_end s at
   unfolding part_end
-  length-short e =
-      let f : at + 4 ≤ length s → ⊥ = λ h. none s (number 4 done) at 3 (sym e) (at + 4) (le s at 4) (h, (refl, refl)) in
+  length-short (Ok (x, p)) e f = let z : ⊥ = cc in absurd z
+  length-short (Err x) e f =
+      let g : at + 4 ≤ length s → ⊥ = λ h. none s (number 4 done) at (refusal_number x) (sym e) (at + 4) (le s at 4) (h, (refl, refl)) in
       omega arith
 
 -- the three parts of a case, one after another; the first of them that is cut off cuts the case off
@@ -52,13 +63,14 @@ module _ (s : List ℕ) (at : ℕ) where
 
 -- and their order
 module _ {s : List ℕ} {at : ℕ} {c : Case} (h : CaseIs s at c) where
-  pub case_order : (at + 4 ≤ c.name_end) × (c.name_end + 4 ≤ c.input_end) × (c.input_end + 4 ≤ c.end) × (c.end ≤ length s)
-  case_order = (
-    omega (arith, h.name_end, part_later s at),
-    omega (arith, h.name_end, h.input_end, part_later s (input_at s at)),
-    omega (arith, h.input_end, h.end, part_later s (expected_at s at)),
-    h.inside,
-  )
+  pub case_order : InOrder s at c
+  case_order =
+      record {
+        name = omega (arith, h.name_end, part_later s at);
+        input = omega (arith, h.name_end, h.input_end, part_later s (input_at s at));
+        expected = omega (arith, h.input_end, h.end, part_later s (expected_at s at));
+        inside = h.inside;
+      }
 
   pub input_is : take (c.input_end - (c.name_end + 4)) (drop (c.name_end + 4) s) ≡ part_bytes s (input_at s at)
   input_is = part_is s c.name_end c.input_end (h.input_end ∙ ap (part_end s) (sym h.name_end)) ∙ ap (part_bytes s) h.name_end

@@ -2,117 +2,77 @@
 // what is expected of it; each of these parts has its length before it in 4 bytes, the lowest first.
 #![tactic(auto)]
 
-ghost use Rattle.std.specs.Prelude.{◌≡◌, ◌<◌, ◌≤◌, length};
+ghost use Rattle.std.specs.Prelude.{◌≡◌, ◌<◌, ◌≤◌, IfSome, length};
 ghost use Rattle.test_replayer.specs.Passes.{Says};
-ghost use Rattle.test_runner.specs.Cases.{Ends, CaseOut, counted, StepIs, Tallied, Loads, RunOf};
+ghost use Rattle.test_runner.specs.Cases.{Ends, CaseOut, InOrder, counted, StepIs, Tallied, Loads, RunOf};
 
-use helpers::{ReadU32, le_u32};
+use helpers::le_u32;
 use std::fs::File;
 use std::io::Read;
 use std::rt::Files;
 use std::{io, str};
 use test_replayer::{Against, passes};
 
-// Where a part ends; or it leaves the file.
-#[derive(Drop)]
-pub enum PartEnd {
-    At(usize),
-    Damaged,
-}
-
 // Where the three parts of a case end.
-#[derive(Drop)]
+#[derive(Clone, Copy)]
 pub struct Case {
     pub name_end: usize,
     pub input_end: usize,
     pub end: usize,
 }
 
-#[derive(Drop)]
-pub enum CaseRead {
-    Read(Case),
-    Damaged,
-}
-
-// Whether a case passed.
-#[derive(Drop)]
-pub enum Step {
-    Ran(bool, Case),
-    Damaged,
-}
-
 // The cases that were run, those of them that failed, and whether the file was whole.
-#[derive(Drop)]
+#[derive(Clone, Copy)]
 pub struct Summary {
     pub run: u64,
     pub failed: u64,
     pub whole: bool,
 }
 
-// How many bytes a file has; or it is as long as the buffer or longer; or it was not read.
-#[derive(Drop)]
-pub enum Loaded {
-    Whole(usize),
+// Why a file was not run: it is as long as the buffer or longer, or it was not read.
+#[derive(Clone, Copy)]
+pub enum NotRun {
     TooLong,
     Failed,
 }
 
-// What the run of a file came to; or why it was not run.
-#[derive(Drop)]
-pub enum FileRun {
-    Ran(Summary),
-    TooLong,
-    Failed,
-}
-
-// Where the part at `at` ends.
-fn part_end(cases: &[u8], at: usize) -> PartEnd
+// Where the part at `at` ends, if the file has it as a whole.
+fn part_end(cases: &[u8], at: usize) -> Option<usize>
     ensures { Ends cases.now at result }
 {
-    let ReadU32::Value(length, start) = le_u32(cases, at) else {
-        return PartEnd::Damaged;
-    };
+    let (length, start) = le_u32(cases, at).ok()?;
     let count = length as usize;
     if cases.len() - start < count {
-        return PartEnd::Damaged;
+        return None;
     }
-    PartEnd::At(start + count)
+    Some(start + count)
 }
 
-// The case at `at`.
-fn case_at(cases: &[u8], at: usize) -> CaseRead
-    ensures { CaseOut cases.now at result }
+// The case at `at`, if the file has it as a whole.
+fn case_at(cases: &[u8], at: usize) -> Option<Case>
+    ensures case_out { CaseOut cases.now at result }
+    ensures in_order { IfSome result (InOrder cases.now at) }
 {
-    let PartEnd::At(name_end) = part_end(cases, at) else {
-        return CaseRead::Damaged;
-    };
-    let PartEnd::At(input_end) = part_end(cases, name_end) else {
-        return CaseRead::Damaged;
-    };
-    let PartEnd::At(end) = part_end(cases, input_end) else {
-        return CaseRead::Damaged;
-    };
-    CaseRead::Read(Case {
+    let name_end = part_end(cases, at)?;
+    let input_end = part_end(cases, name_end)?;
+    let end = part_end(cases, input_end)?;
+    Some(Case {
         name_end,
         input_end,
         end,
     })
 }
 
-// Runs the case at `at`.
-fn run_case(against: Against, cases: &[u8], at: usize) -> Step
-    ensures { StepIs (Says against) cases.now at result }
+// Runs the case at `at`, and says whether it passed.
+fn run_case(against: Against, cases: &[u8], at: usize) -> Option<(bool, Case)>
+    ensures step_is { StepIs (Says against) cases.now at result }
+    ensures in_order { IfSome result (λ p. InOrder cases.now at p.1) }
 {
-    let CaseRead::Read(case) = case_at(cases, at) else {
-        return Step::Damaged;
-    };
-    let name_end = case.name_end;
-    let input_end = case.input_end;
-    let end = case.end;
-    let a = name_end + 4;
-    let b = input_end + 4;
-    let passed = passes(against, &cases[a..input_end], &cases[b..end]);
-    Step::Ran(passed, case)
+    let case = case_at(cases, at)?;
+    let input = &cases[case.name_end + 4..case.input_end];
+    let expected = &cases[case.input_end + 4..case.end];
+    let passed = passes(against, input, expected);
+    Some((passed, case))
 }
 
 fn tell_failed(rt: &impl Print, name: &[u8]) -> io::Result<()> {
@@ -130,15 +90,14 @@ fn count(rt: &impl Print, tally: Summary, passed: bool, name: &[u8]) -> Summary
     if passed {
         return Summary {
             run: tally.run + 1,
-            failed: tally.failed,
-            whole: tally.whole,
+            ..tally
         };
     }
     let _ = tell_failed(rt, name);
     Summary {
         run: tally.run + 1,
         failed: tally.failed + 1,
-        whole: tally.whole,
+        ..tally
     }
 }
 
@@ -153,17 +112,13 @@ pub fn run(rt: &impl Print, against: Against, cases: &[u8]) -> Summary
         whole: true,
     };
     while at < cases.len() {
-        let s = run_case(against, cases, at);
-        let Step::Ran(passed, case) = s else {
+        let Some((passed, case)) = run_case(against, cases, at) else {
             return Summary {
-                run: tally.run,
-                failed: tally.failed,
                 whole: false,
+                ..tally
             };
         };
-        let start = at + 4;
-        let name_end = case.name_end;
-        tally = count(rt, tally, passed, &cases[start..name_end]);
+        tally = count(rt, tally, passed, &cases[at + 4..case.name_end]);
         at = case.end;
     }
     tally
@@ -200,31 +155,31 @@ fn open<R: Files>(rt: &R, path: &[u8]) -> Option<R::File> {
 
 // The bytes of the file at a path. A byte of the buffer must stay free, so that a file that does
 // not fit is told apart, and the read after the last byte must answer the file's end.
-fn load(rt: &impl Files, path: &[u8], buf: &mut [u8]) -> Loaded
+fn load(rt: &impl Files, path: &[u8], buf: &mut [u8]) -> Result<usize, NotRun>
     ensures { Loads result buf.new }
 {
-    let Some(mut file) = open(rt, path) else {
-        return Loaded::Failed;
-    };
+    let mut file = open(rt, path).ok_or(NotRun::Failed)?;
     let n = fill(&mut file, buf);
     if n == buf.len() {
-        return Loaded::TooLong;
+        return Err(NotRun::TooLong);
     }
     if !is_at_end(&mut file, &mut buf[n..]) {
-        return Loaded::Failed;
+        return Err(NotRun::Failed);
     }
-    Loaded::Whole(n)
+    Ok(n)
 }
 
 // Runs the cases of the file at a path, by way of a buffer that is longer than it.
-pub fn run_file(rt: &(impl Files + Print), against: Against, path: &[u8], buf: &mut [u8]) -> FileRun
+pub fn run_file(
+    rt: &(impl Files + Print),
+    against: Against,
+    path: &[u8],
+    buf: &mut [u8],
+) -> Result<Summary, NotRun>
     ensures { RunOf (Says against) buf.new result }
 {
-    match load(rt, path, buf) {
-        Loaded::Whole(n) => FileRun::Ran(run(rt, against, &buf[..n])),
-        Loaded::TooLong => FileRun::TooLong,
-        Loaded::Failed => FileRun::Failed,
-    }
+    let n = load(rt, path, buf)?;
+    Ok(run(rt, against, &buf[..n]))
 }
 
 fn tell_count(rt: &impl Print, s: Summary) -> io::Result<()> {
@@ -244,10 +199,20 @@ fn tell_not_run(rt: &impl Print, path: &[u8], why: &str) -> io::Result<()> {
 
 // Writes the last line of a run. It yields nothing but a failed write's error, and no contract speaks
 // of what is written.
-pub fn tell(rt: &impl Print, path: &[u8], outcome: FileRun) -> io::Result<()> {
+fn tell(rt: &impl Print, path: &[u8], outcome: Result<Summary, NotRun>) -> io::Result<()> {
     match outcome {
-        FileRun::Ran(s) => tell_count(rt, s),
-        FileRun::TooLong => tell_not_run(rt, path, " does not fit"),
-        FileRun::Failed => tell_not_run(rt, path, " was not read"),
+        Ok(s) => tell_count(rt, s),
+        Err(NotRun::TooLong) => tell_not_run(rt, path, " does not fit"),
+        Err(NotRun::Failed) => tell_not_run(rt, path, " was not read"),
     }
+}
+
+// Runs the cases of the file at a path, and writes the last line of the run.
+pub fn report(
+    rt: &(impl Files + Print),
+    against: Against,
+    path: &[u8],
+    buf: &mut [u8],
+) -> io::Result<()> {
+    tell(rt, path, run_file(rt, against, path, buf))
 }

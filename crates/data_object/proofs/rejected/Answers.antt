@@ -4,7 +4,4 @@ use mathlib.Core.Path.{refl}
 use Rattle.data_object.proofs.rejected.Goals as goal
 
 pub returns-clause-rejected_as : goal.returns-clause-rejected_as
-returns-clause-rejected_as c = record { answer = refl; rows = refl; records = wins≡ c.default-ds.ensures.value c.default-dt.ensures c.default-li.ensures c.default-gi.ensures c.default-ai.ensures c.default-layout.ensures }
-
-pub returns-clause-true_space : goal.returns-clause-true_space
-returns-clause-true_space c = c.default-ds.ensures.true_space
+returns-clause-rejected_as c = record { answer = refl; rows = refl; records = wins≡ c.default-2.ensures.0 c.default.ensures c.default-3.ensures c.default-5.ensures c.default-4.ensures c.default-6.ensures }

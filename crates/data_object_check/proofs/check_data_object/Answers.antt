@@ -5,8 +5,15 @@ use Rattle.data_object_messages.specs.Messages.{messages_out}
 use Rattle.data_object_check.specs.CheckedLaws.{refused_checked, passed_checked}
 use Rattle.data_object_check.proofs.check_data_object.Goals as goal
 
-pub returns-in-Refused : goal.returns-in-Refused
-returns-in-Refused c = let a = c.args in let u = c.data_object_messages.new.table in refused_checked a.file.now a.offset_width a.length_width a.end_of_file a.position _ c.in-Refused.r c.in-Refused.field-1 (sym (met (λ m. messages_out m u) c.data_object_messages.ensures.table_after c.in-Refused.is))
+pub returns-in-Err : goal.returns-in-Err
+returns-in-Err c =
+    let a = c.args in
+    let u = c.data_object_messages-read.new.table in
+    let s = c.in-Err.stopped in
+    refused_checked a.file.now a.offset_width a.length_width a.end_of_file a.position _ s.refusal s.entries (sym (met (λ m. messages_out m u) c.data_object_messages-read.ensures.table_after c.in-Err.is))
 
-pub returns-in-Read : goal.returns-in-Read
-returns-in-Read c = let a = c.args in let u = c.data_object_messages.new.table in passed_checked a.file.now a.offset_width a.length_width a.end_of_file a.position _ c.in-Read.progress u (sym (met (λ m. messages_out m u) c.data_object_messages.ensures.table_after c.in-Read.is))
+pub returns-in-Ok : goal.returns-in-Ok
+returns-in-Ok c =
+    let a = c.args in
+    let u = c.data_object_messages-read.new.table in
+    passed_checked a.file.now a.offset_width a.length_width a.end_of_file a.position _ c.in-Ok.progress u (sym (met (λ m. messages_out m u) c.data_object_messages-read.ensures.table_after c.in-Ok.is))

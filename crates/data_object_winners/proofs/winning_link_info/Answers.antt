@@ -1,11 +1,9 @@
 -- No row and a refused reading both give the default; else the link info is what was read.
+use Rattle.data_object_winners.specs.Facts.{read_or_default}
 use Rattle.data_object_winners.proofs.winning_link_info.Goals as goal
 
 pub returns-in_default : goal.returns-in_default
 returns-in_default c = rw (c.default.ensures, ← c.last_body.ensures, c.in_default.is)
 
-pub returns-in_default-message_link_info : goal.returns-in_default-message_link_info
-returns-in_default-message_link_info c = rw (c.default-in_default-message_link_info.ensures, ← c.last_body.ensures, c.in-At.is, ← c.message_link_info.ensures, c.in_default-message_link_info.is)
-
 pub returns : goal.returns
-returns c = rw (← c.last_body.ensures, c.in-At.is, ← c.message_link_info.ensures, c.in-Read.is)
+returns c = rw (← c.last_body.ensures, c.in-Some.is) (read_or_default _ c.message_link_info.result c.value_or_default.result c.message_link_info.ensures c.value_or_default.ensures)

@@ -6,11 +6,11 @@ use Rattle.data_object_words.proofs.put_answer.Goals as goal
 pub bounds-words-1 : goal.bounds-words-1
 bounds-words-1 c = simp length-set (omega arith)
 
-pub bounds-words-1-in-Refused : goal.bounds-words-1-in-Refused
-bounds-words-1-in-Refused c = simp length-set (omega arith)
+pub bounds-words-1-in-Err : goal.bounds-words-1-in-Err
+bounds-words-1-in-Err c = simp length-set (omega arith)
 
-pub returns-in-Read : goal.returns-in-Read
-returns-in-Read c = rw c.in-Read.is
+pub returns-in-Ok : goal.returns-in-Ok
+returns-in-Ok c = rw c.in-Ok.is
 
-pub returns-in-Refused : goal.returns-in-Refused
-returns-in-Refused c = rw (c.in-Refused.is, c.number-number.ensures)
+pub returns-in-Err : goal.returns-in-Err
+returns-in-Err c = rw (c.in-Err.is, c.number.ensures)

@@ -9,14 +9,5 @@ half_of-requires c = rw c.in-Signed.is at c.requires.0
 pub overflow_cast-v : goal.overflow_cast-v
 overflow_cast-v c = let h = rw c.in-Single.is at c.requires.0 in let b = rw h at c.requires.1 in record { fits = b }
 
-pub returns-in-Unsigned : goal.returns-in-Unsigned
-returns-in-Unsigned c = rw c.in-Unsigned.is
-
 pub returns-in-Signed : goal.returns-in-Signed
 returns-in-Signed c = rw (c.in-Signed.is, to_z-of_z w64 c.signed_of.result (record { sfits = c.signed_of.type_inv }), c.signed_of.ensures, c.half_of.ensures.0)
-
-pub returns-in-Single : goal.returns-in-Single
-returns-in-Single c = rw c.in-Single.is c.single_of.ensures
-
-pub returns-in-Double : goal.returns-in-Double
-returns-in-Double c = rw c.in-Double.is c.double_of.ensures

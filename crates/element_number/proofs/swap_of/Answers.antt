@@ -1,18 +1,17 @@
--- Each size has its own swap.
-use Rattle.number_form.specs.Sizes.{last_size}
-use Rattle.format.specs.Bytes.{swap}
+-- The highest bytes of all eight in the other order are the lowest ones in the other order.
 use native.Mathlib.Omega.{arith}
+use Rattle.number_form.specs.Sizes.{small_size, some_size}
+use Rattle.element_number.specs.Facts.{swapped_high}
 use Rattle.element_number.proofs.swap_of.Goals as goal
 
-pub returns-in-1 : goal.returns-in-1
-unfolding swap
-returns-in-1 c = rw c.in-1.is (omega arith)
+pub overflow_mul-result : goal.overflow_mul-result
+overflow_mul-result c = record { fits = omega (arith, small_size c.requires) }
 
-pub returns-in-2 : goal.returns-in-2
-returns-in-2 c = rw c.in-2.is c.swap_2.ensures.0
+pub overflow_sub-result : goal.overflow_sub-result
+overflow_sub-result c = omega (arith, small_size c.requires)
 
-pub returns-in-4 : goal.returns-in-4
-returns-in-4 c = rw c.in-4.is c.swap_4.ensures.0
+pub overflow_shr-result : goal.overflow_shr-result
+overflow_shr-result c = omega (arith, some_size c.requires)
 
-pub returns-in_default : goal.returns-in_default
-returns-in_default c = let r = c.in_default.in_default-own.rest in rw (last_size (c.requires) r.0.0.1 r.0.1 r.1) c.swap_8.ensures
+pub returns : goal.returns
+returns c = rw c.swap_bytes.ensures (swapped_high c.args.size c.args.v (small_size c.requires))

@@ -2,4 +2,4 @@
 use Rattle.firmware.proofs.dowringaf_super_block.Goals as goal
 
 pub returns : goal.returns
-returns c = rw (← c.super_block-answer.ensures.result_value) c.super_block_words.ensures
+returns c = rw (← c.super_block-answer.ensures.result_value) c.from.ensures

@@ -1,12 +1,8 @@
 -- The name's length is the bytes passed so far plus the length from here on, turn by turn.
 use Rattle.format.specs.Bytes.{name_length}
-use lib.ListN.{length}
 use mathlib.Core.Path.{◌≡◌}
-use Prim.Native.Nat.{◌+◌, ◌-◌, ◌≤◌}
+use Prim.Native.Nat.{◌+◌, ◌-◌}
 use Rattle.helpers.proofs.name_length.Given as goal
 
 abbrev pub invariant-loop-n : goal.invariant-loop-n
-invariant-loop-n l = (l.n ≤ l.limit) × (l.at + l.n ≤ length l.file) × (name_length l.file l.at l.limit ≡ l.n + name_length l.file (l.at + l.n) (l.limit - l.n))
-
-abbrev pub decreases-loop-n : goal.decreases-loop-n
-decreases-loop-n l = l.limit - l.n
+invariant-loop-n l = name_length l.file l.at l.limit ≡ l.n + name_length l.file (l.at + l.n) (l.limit - l.n)

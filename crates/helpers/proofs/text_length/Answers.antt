@@ -4,9 +4,6 @@ use native.Mathlib.Omega.{arith}
 use Prim.Native.Nat.{◌-◌}
 use Rattle.helpers.proofs.text_length.Goals as goal
 
-pub loop-n-init : goal.loop-n-init
-loop-n-init c = (omega arith, omega arith)
-
 pub returns-then-file-at-ne0 : goal.returns-then-file-at-ne0
 returns-then-file-at-ne0 c = (omega (arith, text_full c.args.file.now c.args.at c.loop-n.n (c.loop-n.n - 1) c.if-file-at-ne0.true (omega arith)), omega arith)
 

@@ -6,6 +6,3 @@ use Rattle.helpers.proofs.text_length.Given as goal
 
 abbrev pub invariant-loop-n : goal.invariant-loop-n
 invariant-loop-n l = (l.n ≤ l.count) × (text_length l.file l.at l.count ≡ text_length l.file l.at l.n)
-
-abbrev pub decreases-loop-n : goal.decreases-loop-n
-decreases-loop-n l = l.n

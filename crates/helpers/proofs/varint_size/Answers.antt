@@ -6,8 +6,5 @@ use Rattle.helpers.proofs.varint_size.Goals as goal
 pub returns-then-size-gt8 : goal.returns-then-size-gt8
 returns-then-size-gt8 c = rw (lt-leb _ _ c.if-size-gt8.true, read_refuse)
 
-pub returns-in_default : goal.returns-in_default
-returns-in_default c = rw (le-leb _ _ c.if-size-gt8.false, ← c.varint.ensures, c.in_default.is)
-
 pub returns : goal.returns
-returns c = rw (le-leb _ _ c.if-size-gt8.false, ← c.varint.ensures, c.in-Value.is)
+returns c = rw (le-leb _ _ c.if-size-gt8.false, ← c.varint.ensures)

@@ -1,13 +1,14 @@
--- Two hyphens or two figures are written one after another.
+-- The two figures, or two hyphens, are written one after another.
+use Rattle.std.proofs.Common.{◌≡◌, rules}
+use Rattle.std.specs.Prelude.{option_map}
+use Rattle.records.specs.declared.Part.{Part}
 use Rattle.listing_text.specs.Listing.{place_of}
 use Rattle.text.proofs.Laws.{then}
-use borrow.Author.Rules.{rules}
 use Rattle.listing_text.proofs.put_part.Goals as goal
 
-pub returns-in-None : goal.returns-in-None
+pub returns-clause-wrote : goal.returns-clause-wrote
 unfolding place_of
-returns-in-None c = rw c.in-None.is (record { wrote = then c.put_field-at.ensures.wrote c.put_field.ensures.wrote; upper_bound = search rules })
-
-pub returns-in-Some : goal.returns-in-Some
-unfolding place_of
-returns-in-Some c = rw c.in-Some.is (record { wrote = then c.put_field-at-in-Some.ensures.wrote c.put_field-in-Some.ensures.wrote; upper_bound = search rules })
+returns-clause-wrote c =
+    let p : c.map.result ≡ option_map (λ (p : Part). p.position) c.args.part = search rules in
+    let l : c.map-2.result ≡ option_map (λ (p : Part). p.length) c.args.part = search rules in
+    rw (← p, ← l) (then c.put_field-at.ensures.wrote c.put_field.ensures.wrote)

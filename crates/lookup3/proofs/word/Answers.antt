@@ -11,7 +11,7 @@ pub returns-then-part-at : goal.returns-then-part-at
 returns-then-part-at c = rw (le_past c.args.part.now c.args.at 4 (omega arith))
 
 pub overflow_cast-result : goal.overflow_cast-result
-overflow_cast-result c = let b : (i : ℕ) → get_or c.args.part.now i 0 < 256 = λ i. omega (arith, c.shared_slice_known-1.given i) in
+overflow_cast-result c = let b : (i : ℕ) → get_or c.args.part.now i 0 < 256 = λ i. omega (arith, c.type_inv.part i) in
     omega (arith, le_below c.args.part.now b c.args.at 4, le_cut c.args.part.now c.args.at (length c.args.part.now - c.args.at) 4 (omega arith) (omega arith))
 
 pub returns-then-part-at-lt4 : goal.returns-then-part-at-lt4

@@ -9,4 +9,4 @@ returns-then-present c = rw c.if-present.true c.dimensions.ensures
 
 pub returns : goal.returns
 unfolding maximum_sizes
-returns c = rw (c.if-present.false, c.none.ensures, read_done)
+returns c = rw (c.if-present.false, c.default.ensures, read_done)

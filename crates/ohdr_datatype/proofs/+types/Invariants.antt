@@ -2,16 +2,13 @@
 use Rattle.ohdr_datatype.specs.DataTypes.{member as memberFormat, data_type, plain}
 use Rattle.format.specs.Format.{read, times}
 use mathlib.Core.Path.{◌≡◌}
-use Prim.Native.Nat.{◌+◌, ◌*◌}
+use Prim.Native.Nat.{◌+◌, ◌*◌, ◌-◌}
 use Rattle.ohdr_datatype.proofs.+types.Given as goal
 
-abbrev pub invariant-compound-loop-left : goal.invariant-compound-loop-left
-invariant-compound-loop-left l =
+abbrev pub invariant-compound-loop : goal.invariant-compound-loop
+invariant-compound-loop l =
     read l.file (times l.count (memberFormat l.version l.size (data_type l.levels)) plain) l.at
-    ≡ read l.file (times l.left (memberFormat l.version l.size (data_type l.levels)) plain) l.place
-
-abbrev pub decreases-compound-loop-left : goal.decreases-compound-loop-left
-decreases-compound-loop-left l = l.left
+    ≡ read l.file (times (l.count - l.counter) (memberFormat l.version l.size (data_type l.levels)) plain) l.place
 
 abbrev pub decreases-compound : goal.decreases-compound
 decreases-compound l = 6 * l.levels + 3

@@ -1,4 +1,5 @@
 -- Class by class.
+use native.Mathlib.Omega.{arith}
 use borrow.Author.Tests.{ne_eqb}
 use Rattle.ohdr_datatype.specs.DataTypes.{known_class}
 use Rattle.ohdr_datatype.proofs.known_class.Goals as goal
@@ -29,4 +30,4 @@ returns-in-9 c = rw c.in-9.is
 
 pub returns-in_default : goal.returns-in_default
 unfolding known_class
-returns-in_default c = let r = c.in_default.in_default-own.rest in rw (ne_eqb _ _ r.0.0.0.0.0.1, ne_eqb _ _ r.0.0.0.0.1, ne_eqb _ _ r.0.0.0.1, ne_eqb _ _ r.0.0.1, ne_eqb _ _ r.0.1, ne_eqb _ _ r.1)
+returns-in_default c = rw (ne_eqb c.args.class 0 (omega arith), ne_eqb c.args.class 1 (omega arith), ne_eqb c.args.class 3 (omega arith), ne_eqb c.args.class 6 (omega arith), ne_eqb c.args.class 7 (omega arith), ne_eqb c.args.class 9 (omega arith))

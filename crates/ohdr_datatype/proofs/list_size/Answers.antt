@@ -1,9 +1,13 @@
 -- The mask leaves the class, and only class 9 has a list size.
-use Rattle.ohdr_datatype.specs.Facts.{class_is, class_not}
+use Rattle.std.specs.Prelude.{ℕ, ◌≡◌, refl, Bool, true, false, Option, Some, None}
+use Rattle.std.specs.Bool.{then_some}
+use Rattle.format.specs.Format.{pick}
+use Rattle.ohdr_datatype.specs.Facts.{class_is}
 use Rattle.ohdr_datatype.proofs.list_size.Goals as goal
 
-pub returns-then-cv-eq9 : goal.returns-then-cv-eq9
-returns-then-cv-eq9 c = rw (class_is c.args.header.class_and_version c.if-cv-eq9.true)
+picked : (t : Bool) (x : ℕ) → ◌≡◌ {A = Option ℕ} (then_some t x) (pick t (Some x) None)
+picked true x = refl
+picked false x = refl
 
-pub returns-else-cv-eq9 : goal.returns-else-cv-eq9
-returns-else-cv-eq9 c = rw (class_not c.args.header.class_and_version 9 c.if-cv-eq9.false)
+pub returns : goal.returns
+returns c = rw (class_is c.args.header.class_and_version refl, c.then_some.ensures) (picked _ c.args.header.size)

@@ -1,21 +1,23 @@
 -- The type chooses the body, and a plain body shows neither name nor part.
-use borrow.Author.Tests.{eq-eqb, ne_eqb}
+use Rattle.helpers.specs.Facts.{handed_on}
+use borrow.Author.Tests.{ne_eqb}
+use native.Mathlib.Omega.{arith}
 use Rattle.ohdr_entry.specs.Entries.{body}
 use Rattle.ohdr_entry.specs.Facts.{plain_figures}
 use Rattle.ohdr_entry.proofs.message_kind.Goals as goal
 
-pub returns-then-kind-eq8 : goal.returns-then-kind-eq8
+pub returns-in-8 : goal.returns-in-8
 unfolding body
-returns-then-kind-eq8 c = rw (eq-eqb _ _ c.if-kind-eq8.true) c.body_data_layout.ensures
+returns-in-8 c = rw c.in-8.is c.body_data_layout.ensures
 
-pub returns-then-kind-eq12 : goal.returns-then-kind-eq12
+pub returns-in-12 : goal.returns-in-12
 unfolding body
-returns-then-kind-eq12 c = rw (ne_eqb _ _ c.if-kind-eq8.false, eq-eqb _ _ c.if-kind-eq12.true) c.body_attribute.ensures
+returns-in-12 c = rw c.in-12.is c.body_attribute.ensures
 
-pub returns-in-Refused : goal.returns-in-Refused
+pub returns-in_err-next-in_default : goal.returns-in_err-next-in_default
 unfolding body
-returns-in-Refused c = rw (ne_eqb _ _ c.if-kind-eq8.false, ne_eqb _ _ c.if-kind-eq12.false, plain_figures, ← c.plain_body.ensures, c.in-Refused.is)
+returns-in_err-next-in_default c = let k = c.args.kind in rw (ne_eqb k 8 (λ e. omega arith), ne_eqb k 12 (λ e. omega arith), plain_figures, ← c.plain_body.ensures, c.in_err-next-in_default.was, handed_on c.from_residual.result c.in_err-next-in_default.field-0.0 c.from_residual.ensures.1)
 
-pub returns-in-At : goal.returns-in-At
+pub returns-in_ok-next-in_default : goal.returns-in_ok-next-in_default
 unfolding body
-returns-in-At c = rw (ne_eqb _ _ c.if-kind-eq8.false, ne_eqb _ _ c.if-kind-eq12.false, plain_figures, ← c.plain_body.ensures, c.in-At.is)
+returns-in_ok-next-in_default c = let k = c.args.kind in rw (ne_eqb k 8 (λ e. omega arith), ne_eqb k 12 (λ e. omega arith), plain_figures, ← c.plain_body.ensures, c.in_ok-next-in_default.was)

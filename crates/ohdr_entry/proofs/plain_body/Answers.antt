@@ -1,6 +1,7 @@
 -- Type by type: the position of each body's reading is what its call promises.
 use Rattle.grammar.specs.Message as messages
 use borrow.Author.Tests.{ne_eqb}
+use native.Mathlib.Omega.{arith}
 use Rattle.ohdr_entry.specs.Facts.{position_kept, position_self}
 use Rattle.ohdr_entry.specs.Entries.{plain_body}
 use Rattle.format.specs.Steps.{read_done}
@@ -8,15 +9,15 @@ use Rattle.ohdr_entry.proofs.plain_body.Goals as goal
 
 pub returns-in-1 : goal.returns-in-1
 unfolding plain_body
-returns-in-1 c = rw (c.in-1.is, position_kept _ _ messages.data_space) c.body_data_space.ensures
+returns-in-1 c = rw (c.in-1.is, position_kept _ _ messages.data_space, ← c.message_data_space.ensures.result_value) c.position.ensures
 
 pub returns-in-2 : goal.returns-in-2
 unfolding plain_body
-returns-in-2 c = rw (c.in-2.is, position_kept _ _ messages.link_info) c.body_link_info.ensures
+returns-in-2 c = rw (c.in-2.is, position_kept _ _ messages.link_info, ← c.message_link_info.ensures) c.position-in-2.ensures
 
 pub returns-in-3 : goal.returns-in-3
 unfolding plain_body
-returns-in-3 c = rw (c.in-3.is, position_kept _ _ messages.data_type) c.body_data_type.ensures
+returns-in-3 c = rw (c.in-3.is, position_kept _ _ messages.data_type, ← c.message_data_type.ensures) c.position-in-3.ensures
 
 pub returns-in-4 : goal.returns-in-4
 unfolding plain_body
@@ -28,7 +29,7 @@ returns-in-5 c = rw (c.in-5.is, position_kept _ _ (λ _. messages.nothing), posi
 
 pub returns-in-10 : goal.returns-in-10
 unfolding plain_body
-returns-in-10 c = rw (c.in-10.is, position_kept _ _ messages.group_info) c.body_group_info.ensures
+returns-in-10 c = rw (c.in-10.is, position_kept _ _ messages.group_info, ← c.message_group_info.ensures) c.position-in-10.ensures
 
 pub returns-in-11 : goal.returns-in-11
 unfolding plain_body
@@ -36,8 +37,8 @@ returns-in-11 c = rw (c.in-11.is, position_kept _ _ (λ _. messages.nothing), po
 
 pub returns-in-21 : goal.returns-in-21
 unfolding plain_body
-returns-in-21 c = rw (c.in-21.is, position_kept _ _ messages.attribute_info) c.body_attribute_info.ensures
+returns-in-21 c = rw (c.in-21.is, position_kept _ _ messages.attribute_info, ← c.message_attribute_info.ensures) c.position-in-21.ensures
 
 pub returns-in_default : goal.returns-in_default
 unfolding plain_body
-returns-in_default c = let r = c.in_default.in_default-own.rest in rw (ne_eqb _ 1 r.0.0.0.0.0.0.0.1, ne_eqb _ 2 r.0.0.0.0.0.0.1, ne_eqb _ 3 r.0.0.0.0.0.1, ne_eqb _ 4 r.0.0.0.0.1, ne_eqb _ 5 r.0.0.0.1, ne_eqb _ 10 r.0.0.1, ne_eqb _ 11 r.0.1, ne_eqb _ 21 r.1, read_done)
+returns-in_default c = let k = c.args.kind in rw (ne_eqb k 1 (λ e. omega arith), ne_eqb k 2 (λ e. omega arith), ne_eqb k 3 (λ e. omega arith), ne_eqb k 4 (λ e. omega arith), ne_eqb k 5 (λ e. omega arith), ne_eqb k 10 (λ e. omega arith), ne_eqb k 11 (λ e. omega arith), ne_eqb k 21 (λ e. omega arith), read_done)

@@ -1,41 +1,38 @@
 -- Each field, the padded name and the padded values are one step of the format.
+use Rattle.helpers.specs.Facts.{handed_on}
 use Rattle.ohdr_storage.specs.Storage.{filter1}
 use borrow.Author.Tests.{lt-leb, le-leb}
-use Rattle.format.specs.Steps.{read_number, read_skip, read_refuse, read_done}
+use Rattle.format.specs.Steps.{read_number, read_skip, read_refuse}
 use Rattle.ohdr_storage.proofs.filter_1.Goals as goal
 
-pub returns-in_default : goal.returns-in_default
+pub returns-in_err-length_at : goal.returns-in_err-length_at
 unfolding filter1
-returns-in_default c = rw (read_number, ← c.le_u16.ensures, c.in_default.is)
+returns-in_err-length_at c = rw (read_number, ← c.le_u16.ensures, c.in_err-length_at.was, handed_on c.from_residual.result c.in_err-length_at.field-0.0 c.from_residual.ensures.1)
 
-pub returns-in_default-le_u16 : goal.returns-in_default-le_u16
+pub returns-in_err-name_length : goal.returns-in_err-name_length
 unfolding filter1
-returns-in_default-le_u16 c = rw (read_number, ← c.le_u16.ensures, c.in-Value.is, read_number, ← c.le_u16-2.ensures, c.in_default-le_u16.is)
+returns-in_err-name_length c = rw (read_number, ← c.le_u16.ensures, c.in_ok-length_at.was, read_number, ← c.le_u16-2.ensures, c.in_err-name_length.was, handed_on c.from_residual-in_err-name_length.result c.in_err-name_length.field-0.0 c.from_residual-in_err-name_length.ensures.1)
 
-pub returns-in_default-le_u16-2 : goal.returns-in_default-le_u16-2
+pub returns-in_err-values_at : goal.returns-in_err-values_at
 unfolding filter1
-returns-in_default-le_u16-2 c = rw (read_number, ← c.le_u16.ensures, c.in-Value.is, read_number, ← c.le_u16-2.ensures, c.in-Value-le_u16.is, read_number, ← c.le_u16-3.ensures, c.in_default-le_u16-2.is)
+returns-in_err-values_at c = rw (read_number, ← c.le_u16.ensures, c.in_ok-length_at.was, read_number, ← c.le_u16-2.ensures, c.in_ok-name_length.was, read_number, ← c.le_u16-3.ensures, c.in_err-values_at.was, handed_on c.from_residual-in_err-values_at.result c.in_err-values_at.field-0.0 c.from_residual-in_err-values_at.ensures.1)
 
-pub returns-in_default-le_u16-3 : goal.returns-in_default-le_u16-3
+pub returns-in_err-values : goal.returns-in_err-values
 unfolding filter1
-returns-in_default-le_u16-3 c = rw (read_number, ← c.le_u16.ensures, c.in-Value.is, read_number, ← c.le_u16-2.ensures, c.in-Value-le_u16.is, read_number, ← c.le_u16-3.ensures, c.in-Value-le_u16-2.is, read_number, ← c.le_u16-4.ensures, c.in_default-le_u16-3.is)
+returns-in_err-values c = rw (read_number, ← c.le_u16.ensures, c.in_ok-length_at.was, read_number, ← c.le_u16-2.ensures, c.in_ok-name_length.was, read_number, ← c.le_u16-3.ensures, c.in_ok-values_at.was, read_number, ← c.le_u16-4.ensures, c.in_err-values.was, handed_on c.from_residual-in_err-values.result c.in_err-values.field-0.0 c.from_residual-in_err-values.ensures.1)
 
 pub returns-then-values-gt4096 : goal.returns-then-values-gt4096
 unfolding filter1
-returns-then-values-gt4096 c = rw (read_number, ← c.le_u16.ensures, c.in-Value.is, read_number, ← c.le_u16-2.ensures, c.in-Value-le_u16.is, read_number, ← c.le_u16-3.ensures, c.in-Value-le_u16-2.is, read_number, ← c.le_u16-4.ensures, c.in-Value-le_u16-3.is, lt-leb _ _ c.if-values-gt4096.true, read_refuse)
+returns-then-values-gt4096 c = rw (read_number, ← c.le_u16.ensures, c.in_ok-length_at.was, read_number, ← c.le_u16-2.ensures, c.in_ok-name_length.was, read_number, ← c.le_u16-3.ensures, c.in_ok-values_at.was, read_number, ← c.le_u16-4.ensures, c.in_ok-values.was, lt-leb _ _ c.if-values-gt4096.true, read_refuse)
 
-pub returns-in_default-take : goal.returns-in_default-take
+pub returns-in_err-data_at : goal.returns-in_err-data_at
 unfolding filter1
-returns-in_default-take c = rw (read_number, ← c.le_u16.ensures, c.in-Value.is, read_number, ← c.le_u16-2.ensures, c.in-Value-le_u16.is, read_number, ← c.le_u16-3.ensures, c.in-Value-le_u16-2.is, read_number, ← c.le_u16-4.ensures, c.in-Value-le_u16-3.is, le-leb _ _ c.if-values-gt4096.false, read_skip, ← c.take.ensures, c.in_default-take.is)
+returns-in_err-data_at c = rw (read_number, ← c.le_u16.ensures, c.in_ok-length_at.was, read_number, ← c.le_u16-2.ensures, c.in_ok-name_length.was, read_number, ← c.le_u16-3.ensures, c.in_ok-values_at.was, read_number, ← c.le_u16-4.ensures, c.in_ok-values.was, le-leb _ _ c.if-values-gt4096.false, read_skip, ← c.take.ensures, c.in_err-data_at.was, handed_on c.from_residual-in_err-data_at.result c.in_err-data_at.field-0.0 c.from_residual-in_err-data_at.ensures.1)
 
-pub returns-in_default-take-2 : goal.returns-in_default-take-2
+pub returns-in_err-padding_at : goal.returns-in_err-padding_at
 unfolding filter1
-returns-in_default-take-2 c = rw (read_number, ← c.le_u16.ensures, c.in-Value.is, read_number, ← c.le_u16-2.ensures, c.in-Value-le_u16.is, read_number, ← c.le_u16-3.ensures, c.in-Value-le_u16-2.is, read_number, ← c.le_u16-4.ensures, c.in-Value-le_u16-3.is, le-leb _ _ c.if-values-gt4096.false, read_skip, ← c.take.ensures, c.in-At.is, read_skip, ← c.take-2.ensures, c.in_default-take-2.is)
-
-pub returns-in_default-take-3 : goal.returns-in_default-take-3
-unfolding filter1
-returns-in_default-take-3 c = rw (read_number, ← c.le_u16.ensures, c.in-Value.is, read_number, ← c.le_u16-2.ensures, c.in-Value-le_u16.is, read_number, ← c.le_u16-3.ensures, c.in-Value-le_u16-2.is, read_number, ← c.le_u16-4.ensures, c.in-Value-le_u16-3.is, le-leb _ _ c.if-values-gt4096.false, read_skip, ← c.take.ensures, c.in-At.is, read_skip, ← c.take-2.ensures, c.in-At-take.is, read_skip, ← c.take-3.ensures, c.in_default-take-3.is)
+returns-in_err-padding_at c = rw (read_number, ← c.le_u16.ensures, c.in_ok-length_at.was, read_number, ← c.le_u16-2.ensures, c.in_ok-name_length.was, read_number, ← c.le_u16-3.ensures, c.in_ok-values_at.was, read_number, ← c.le_u16-4.ensures, c.in_ok-values.was, le-leb _ _ c.if-values-gt4096.false, read_skip, ← c.take.ensures, c.in_ok-data_at.was, read_skip, ← c.take-2.ensures, c.in_err-padding_at.was, handed_on c.from_residual-in_err-padding_at.result c.in_err-padding_at.field-0.0 c.from_residual-in_err-padding_at.ensures.1)
 
 pub returns : goal.returns
 unfolding filter1
-returns c = rw (read_number, ← c.le_u16.ensures, c.in-Value.is, read_number, ← c.le_u16-2.ensures, c.in-Value-le_u16.is, read_number, ← c.le_u16-3.ensures, c.in-Value-le_u16-2.is, read_number, ← c.le_u16-4.ensures, c.in-Value-le_u16-3.is, le-leb _ _ c.if-values-gt4096.false, read_skip, ← c.take.ensures, c.in-At.is, read_skip, ← c.take-2.ensures, c.in-At-take.is, read_skip, ← c.take-3.ensures, c.in-At-take-2.is, read_done)
+returns c = rw (read_number, ← c.le_u16.ensures, c.in_ok-length_at.was, read_number, ← c.le_u16-2.ensures, c.in_ok-name_length.was, read_number, ← c.le_u16-3.ensures, c.in_ok-values_at.was, read_number, ← c.le_u16-4.ensures, c.in_ok-values.was, le-leb _ _ c.if-values-gt4096.false, read_skip, ← c.take.ensures, c.in_ok-data_at.was, read_skip, ← c.take-2.ensures, c.in_ok-padding_at.was, ← c.take-3.ensures)

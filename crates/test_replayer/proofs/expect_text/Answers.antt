@@ -1,8 +1,8 @@
--- The flag decides which text it is.
+-- By the text.
 use Rattle.test_replayer.proofs.expect_text.Goals as goal
 
-pub returns-then-numbers : goal.returns-then-numbers
-returns-then-numbers c = rw c.if-numbers.true c.expect_numbers.ensures
+pub returns-in-Report : goal.returns-in-Report
+returns-in-Report c = rw c.in-Report.is c.expect_report.ensures
 
-pub returns : goal.returns
-returns c = rw c.if-numbers.false c.expect_report.ensures
+pub returns-in-Numbers : goal.returns-in-Numbers
+returns-in-Numbers c = rw c.in-Numbers.is c.expect_numbers.ensures

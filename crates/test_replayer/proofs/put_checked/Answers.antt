@@ -2,10 +2,10 @@
 use Rattle.test_replayer.specs.Checks.{check_line}
 use Rattle.test_replayer.proofs.put_checked.Goals as goal
 
-pub returns-in-Passed : goal.returns-in-Passed
+pub returns-in-Ok : goal.returns-in-Ok
 unfolding check_line
-returns-in-Passed c = rw c.in-Passed.is c.put_passed.ensures
+returns-in-Ok c = rw c.in-Ok.is c.put_passed.ensures
 
-pub returns-in-Refused : goal.returns-in-Refused
+pub returns-in-Err : goal.returns-in-Err
 unfolding check_line
-returns-in-Refused c = rw (c.in-Refused.is, ← c.number-number.ensures) c.put_refused.ensures
+returns-in-Err c = rw (c.in-Err.is, ← c.number-number.ensures) c.put_refused.ensures

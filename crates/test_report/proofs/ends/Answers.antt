@@ -2,8 +2,8 @@
 use Rattle.test_report.specs.FollowsLaws.{whole_at, whole_not}
 use Rattle.test_report.proofs.ends.Goals as goal
 
-pub returns-in-At : goal.returns-in-At
-returns-in-At c = rw c.in-At.is (whole_at _ _)
+pub returns-in-Some : goal.returns-in-Some
+returns-in-Some c = rw c.in-Some.is (whole_at _ _)
 
-pub returns-in-Differs : goal.returns-in-Differs
-returns-in-Differs c = rw c.in-Differs.is (whole_not _)
+pub returns-in-None : goal.returns-in-None
+returns-in-None c = rw c.in-None.is (whole_not _)

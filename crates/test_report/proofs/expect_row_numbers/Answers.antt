@@ -1,16 +1,8 @@
--- After each turn the numbers of the rows so far are met.
-use borrow.Author.Rules.{rules}
-use Rattle.test_report.specs.Laws.{lines_more}
-use native.Mathlib.Omega.{arith}
-use mathlib.Core.Path.{◌≡◌}
-use Rattle.test_report.specs.FollowsLaws.{then, follows_none}
+-- Each call meets the line of one row.
+use Rattle.test_report.specs.Report.{number_line}
+use Rattle.std.proofs.Common.{rules}
+use Rattle.test_report.specs.FollowsLaws.{each}
 use Rattle.test_report.proofs.expect_row_numbers.Goals as goal
 
-pub loop-i-init : goal.loop-i-init
-loop-i-init c = (search rules, follows_none _ _)
-
-pub loop-i-preserved : goal.loop-i-preserved
-loop-i-preserved c = (search rules, rw (lines_more, ← c.row_at.ensures) (then c.loop-i.invariant.1 c.expect_number-met.ensures))
-
 pub returns : goal.returns
-returns c = let e : c.loop-i.i ≡ c.args.rows = omega arith in rw e at c.loop-i.invariant.1
+returns c = each c.args.expected.now number_line _ _ _ c.expect_each.ensures (λ m r n w. search rules)

@@ -1,11 +1,8 @@
--- After each turn the figures so far are met, and the last ends the line.
+-- After each turn the figures so far are met.
 use Rattle.test_report.specs.Report.{figures_of}
 use Rattle.test_report.specs.Follows.{Follows}
-use Prim.Native.Nat.{◌≤◌, ◌-◌}
+use Prim.Native.Nat.{◌-◌}
 use Rattle.test_report.proofs.expect_words.Given as goal
 
 abbrev pub invariant-loop-i : goal.invariant-loop-i
-invariant-loop-i l = (l.first ≤ l.i) × (l.i ≤ l.last) × Follows l.expected l.initial.met l.met (figures_of l.words l.first (l.i - l.first))
-
-abbrev pub decreases-loop-i : goal.decreases-loop-i
-decreases-loop-i l = l.last - l.i
+invariant-loop-i l = Follows l.expected l.initial.met l.met (figures_of l.words l.first (l.i - l.first))

@@ -1,8 +1,0 @@
--- No kind is no null dataspace; of a kind its number tells.
-use Rattle.element_count.proofs.is_null.Goals as goal
-
-pub returns-in-None : goal.returns-in-None
-returns-in-None c = rw c.in-None.is
-
-pub returns-in-Some : goal.returns-in-Some
-returns-in-Some c = rw c.in-Some.is

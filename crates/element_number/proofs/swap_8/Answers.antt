@@ -1,7 +1,0 @@
--- Twice four bytes, by the law that splits a swap.
-use Rattle.format.specs.OrderLaws.{swap_split}
-use native.Mathlib.Omega.{arith}
-use Rattle.element_number.proofs.swap_8.Goals as goal
-
-pub returns : goal.returns
-returns c = omega (arith, swap_split 4 4 c.args.v)
