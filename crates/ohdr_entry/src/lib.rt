@@ -2,9 +2,10 @@
 // prefix, its body by its type, and the rest of its size.
 #![tactic(auto)]
 
-ghost use Rattle.std.specs.Prelude.{◌≡◌, ◌+◌, ◌-◌, ◌≤◌};
+ghost use Rattle.std.specs.Prelude.{◌≡◌, ◌+◌, ◌-◌, ◌≤◌, ℕ, Result};
+ghost use Rattle.records.specs.declared.Refusal.{Refusal};
 ghost use Rattle.helpers.specs.Answers.{out, place_out};
-ghost use Rattle.format.specs.Format.{read, skip, nothing};
+ghost use Rattle.format.specs.Format.{Out, read, skip, nothing};
 ghost use Rattle.parser.specs.States.{Widths};
 ghost use Rattle.ohdr_entry.specs.Continuations.{continuation};
 ghost use Rattle.ohdr_entry.specs.Entries.{creation_order, prefix as prefix_format, plain_body, layout_body, attribute_body, body, message_held, continuation_held, closed, entry};
@@ -77,11 +78,13 @@ fn entry_prefix(file: &[u8], at: usize, header_flags: u8) -> Parsed<Prefix>
     Ok((Prefix { kind, size, flags }, next))
 }
 
-// A reading of which the position alone is kept.
-fn position<T: Drop>(parsed: Parsed<T>) -> Result<usize, Refusal>
-    ensures { place_out result ≡ position_of (out parsed) }
+// A reading of which the position alone is kept. The reader is handed in and not what it read, so
+// that what it reads has room here alone.
+fn position<T: Drop, F: FnOnce() -> Parsed<T>>(read: F) -> Result<usize, Refusal>
+    requires { F.pre read }
+    ensures { (o : Out T) → ((r : Result (T × ℕ) Refusal) → F.post read r → out r ≡ o) → place_out result ≡ position_of o }
 {
-    let (_, next) = parsed?;
+    let (_, next) = read()?;
     Ok(next)
 }
 
@@ -91,14 +94,14 @@ fn plain_body(file: &[u8], at: usize, kind: u8, state: State) -> Result<usize, R
     ensures { place_out result ≡ position_of (read file.now (plain_body state kind) at) }
 {
     match kind {
-        1 => position(message_data_space(file, at, state)),
-        2 => position(message_link_info(file, at, state)),
-        3 => position(message_data_type(file, at, 32)),
+        1 => position(|| message_data_space(file, at, state)),
+        2 => position(|| message_link_info(file, at, state)),
+        3 => position(|| message_data_type(file, at, 32)),
         4 => message_data_fill_old(file, at),
         5 => message_data_fill(file, at),
-        10 => position(message_group_info(file, at)),
+        10 => position(|| message_group_info(file, at)),
         11 => message_filter_pipeline(file, at),
-        21 => position(message_attribute_info(file, at, state)),
+        21 => position(|| message_attribute_info(file, at, state)),
         _ => Ok(at),
     }
 }
@@ -204,19 +207,24 @@ fn entry_message(file: &[u8], body_at: usize, prefix: Prefix, state: State) -> P
     requires { Widths state }
     ensures { entry_out result ≡ seen (read file.now (closed message_held state prefix body_at) body_at) }
 {
-    let (figures, used) = message_kind(file, body_at, prefix.kind, state)?;
-    let next = close_entry(file, body_at, prefix.size, used)?;
-    let row = Row {
-        kind: prefix.kind as u64,
-        flags: prefix.flags as u64,
-        size: prefix.size as u64,
-        body: body_at,
-        name: figures.name,
-        part: figures.part,
-        number_case: figures.number_case,
-        number_bits: figures.number_bits,
-    };
-    Ok((Entry::Message(row), next))
+    // no `?` here: it would copy the figures
+    match message_kind(file, body_at, prefix.kind, state) {
+        Err(refusal) => Err(refusal),
+        Ok((figures, used)) => {
+            let next = close_entry(file, body_at, prefix.size, used)?;
+            let row = Row {
+                kind: prefix.kind as u64,
+                flags: prefix.flags as u64,
+                size: prefix.size as u64,
+                body: body_at,
+                name: figures.name,
+                part: figures.part,
+                number_case: figures.number_case,
+                number_bits: figures.number_bits,
+            };
+            Ok((Entry::Message(row), next))
+        }
+    }
 }
 
 // An entry by itself: its prefix, its body, and the rest of its size.

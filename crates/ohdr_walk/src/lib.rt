@@ -46,20 +46,18 @@ fn message_entry(
         return with_entries(Err(limits.beyond), from.entries);
     }
     let begun = from.entries + 1;
-    let read = entry_alone(file, from.at, header.flags, header.state);
-    let (entry, next) = with_entries(read, begun)?;
-    match entry {
-        Entry::Message(row) => take_row(table, limits, from, row, next),
-        Entry::Continuation(block) => {
+    match entry_alone(file, from.at, header.flags, header.state) {
+        Err(refusal) => with_entries(Err(refusal), begun),
+        Ok((Entry::Message(row), next)) => take_row(table, limits, from, row, next),
+        Ok((Entry::Continuation(block), next)) => {
             if levels == 0 {
                 return with_entries(Err(Refusal::BlockLevel), begun);
             }
             let offset = block.offset as usize;
             let whole = offset + block.length as usize;
             let mark = signature(file, offset, 0x4B48434F, Refusal::ContinuationSignature);
-            let start = with_entries(mark, begun)?;
             let first = Progress {
-                at: start,
+                at: with_entries(mark, begun)?,
                 rows: from.rows,
                 entries: begun,
             };

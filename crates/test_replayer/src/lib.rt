@@ -35,19 +35,18 @@ pub enum Against {
     Sum,
 }
 
-// The texts of a header.
-#[derive(Drop)]
-pub enum HeaderText {
-    Listing,
+// The texts of a decoded header.
+#[derive(Clone, Copy)]
+pub enum DecodedText {
     Report,
     Numbers,
 }
 
-// Those of its words and its table.
-#[derive(Drop)]
-pub enum DecodedText {
-    Report,
-    Numbers,
+// The texts of a header.
+#[derive(Clone, Copy)]
+pub enum HeaderText {
+    Listing,
+    Decoded(DecodedText),
 }
 
 // What is given by hand, before the file: the widths of offsets and lengths, the end-of-file address
@@ -192,8 +191,7 @@ fn passes_header(text: HeaderText, input: &[u8], expected: &[u8]) -> bool
     let file = &input[start..];
     match text {
         HeaderText::Listing => lists_header(file, lead, expected),
-        HeaderText::Report => replays(DecodedText::Report, file, lead, expected),
-        HeaderText::Numbers => replays(DecodedText::Numbers, file, lead, expected),
+        HeaderText::Decoded(decoded) => replays(decoded, file, lead, expected),
     }
 }
 
@@ -213,8 +211,12 @@ pub fn passes(against: Against, input: &[u8], expected: &[u8]) -> bool
     match against {
         Against::Listing => lists(input, expected),
         Against::HeaderListing => passes_header(HeaderText::Listing, input, expected),
-        Against::Report => passes_header(HeaderText::Report, input, expected),
-        Against::Numbers => passes_header(HeaderText::Numbers, input, expected),
+        Against::Report => passes_header(HeaderText::Decoded(DecodedText::Report), input, expected),
+        Against::Numbers => passes_header(
+            HeaderText::Decoded(DecodedText::Numbers),
+            input,
+            expected,
+        ),
         Against::Sum => sums(input, expected),
     }
 }

@@ -105,6 +105,7 @@ fn count(rt: &impl Print, tally: Summary, passed: bool, name: &[u8]) -> Summary
 pub fn run(rt: &impl Print, against: Against, cases: &[u8]) -> Summary
     ensures { Tallied (Says against) cases.now result }
 {
+    // where a case ends shows only as it is read
     let mut at = 0;
     let mut tally = Summary {
         run: 0,
@@ -129,6 +130,7 @@ pub fn run(rt: &impl Print, against: Against, cases: &[u8]) -> Summary
 fn fill(file: &mut impl Read, buf: &mut [u8]) -> usize
     ensures { result ≤ length buf.new }
 {
+    // how much a read brings is not known before it
     let mut done = 0;
     while done < buf.len() {
         let Ok(more) = file.read(&mut buf[done..]) else {
@@ -199,7 +201,7 @@ fn tell_not_run(rt: &impl Print, path: &[u8], why: &str) -> io::Result<()> {
 
 // Writes the last line of a run. It yields nothing but a failed write's error, and no contract speaks
 // of what is written.
-fn tell(rt: &impl Print, path: &[u8], outcome: Result<Summary, NotRun>) -> io::Result<()> {
+pub fn tell(rt: &impl Print, path: &[u8], outcome: Result<Summary, NotRun>) -> io::Result<()> {
     match outcome {
         Ok(s) => tell_count(rt, s),
         Err(NotRun::TooLong) => tell_not_run(rt, path, " does not fit"),

@@ -1,7 +1,12 @@
 -- Type by type: the position of each body's reading is what its call promises.
 use Rattle.grammar.specs.Message as messages
+use Rattle.format.specs.Format.{read}
+use Rattle.ohdr_info.specs.Info.{link_info, group_info, attribute_info}
+use Rattle.ohdr_datatype.specs.DataTypes.{data_type}
+use Rattle.ohdr_dataspace.specs.DataSpaces.{data_space}
 use borrow.Author.Tests.{ne_eqb}
 use native.Mathlib.Omega.{arith}
+use borrow.Author.Rules.{rules}
 use Rattle.ohdr_entry.specs.Facts.{position_kept, position_self}
 use Rattle.ohdr_entry.specs.Entries.{plain_body}
 use Rattle.format.specs.Steps.{read_done}
@@ -9,15 +14,15 @@ use Rattle.ohdr_entry.proofs.plain_body.Goals as goal
 
 pub returns-in-1 : goal.returns-in-1
 unfolding plain_body
-returns-in-1 c = rw (c.in-1.is, position_kept _ _ messages.data_space, ← c.message_data_space.ensures.result_value) c.position.ensures
+returns-in-1 c = rw (c.in-1.is, position_kept _ _ messages.data_space) (c.position.ensures (read c.args.file.now (data_space c.args.state) c.args.at) (λ r h. search rules))
 
 pub returns-in-2 : goal.returns-in-2
 unfolding plain_body
-returns-in-2 c = rw (c.in-2.is, position_kept _ _ messages.link_info, ← c.message_link_info.ensures) c.position-in-2.ensures
+returns-in-2 c = rw (c.in-2.is, position_kept _ _ messages.link_info) (c.position-in-2.ensures (read c.args.file.now (link_info c.args.state) c.args.at) (λ r h. search rules))
 
 pub returns-in-3 : goal.returns-in-3
 unfolding plain_body
-returns-in-3 c = rw (c.in-3.is, position_kept _ _ messages.data_type, ← c.message_data_type.ensures) c.position-in-3.ensures
+returns-in-3 c = rw (c.in-3.is, position_kept _ _ messages.data_type) (c.position-in-3.ensures (read c.args.file.now (data_type 32) c.args.at) (λ r h. search rules))
 
 pub returns-in-4 : goal.returns-in-4
 unfolding plain_body
@@ -29,7 +34,7 @@ returns-in-5 c = rw (c.in-5.is, position_kept _ _ (λ _. messages.nothing), posi
 
 pub returns-in-10 : goal.returns-in-10
 unfolding plain_body
-returns-in-10 c = rw (c.in-10.is, position_kept _ _ messages.group_info, ← c.message_group_info.ensures) c.position-in-10.ensures
+returns-in-10 c = rw (c.in-10.is, position_kept _ _ messages.group_info) (c.position-in-10.ensures (read c.args.file.now group_info c.args.at) (λ r h. search rules))
 
 pub returns-in-11 : goal.returns-in-11
 unfolding plain_body
@@ -37,7 +42,7 @@ returns-in-11 c = rw (c.in-11.is, position_kept _ _ (λ _. messages.nothing), po
 
 pub returns-in-21 : goal.returns-in-21
 unfolding plain_body
-returns-in-21 c = rw (c.in-21.is, position_kept _ _ messages.attribute_info, ← c.message_attribute_info.ensures) c.position-in-21.ensures
+returns-in-21 c = rw (c.in-21.is, position_kept _ _ messages.attribute_info) (c.position-in-21.ensures (read c.args.file.now (attribute_info c.args.state) c.args.at) (λ r h. search rules))
 
 pub returns-in_default : goal.returns-in_default
 unfolding plain_body

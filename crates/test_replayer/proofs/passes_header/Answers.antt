@@ -12,11 +12,8 @@ slice_bounds-file-count c = omega (arith, lead_inside _ c.read_lead.ensures c.in
 pub returns-in-Listing : goal.returns-in-Listing
 returns-in-Listing c = rw (c.in-Listing.is, ← c.read_lead.ensures, c.in-Ok.is, ← part_rest _ c.args.input.now) c.lists_header.ensures
 
-pub returns-in-Report : goal.returns-in-Report
-returns-in-Report c = rw (c.in-Report.is, ← c.read_lead.ensures, c.in-Ok.is, ← part_rest _ c.args.input.now) c.replays.ensures
-
-pub returns-in-Numbers : goal.returns-in-Numbers
-returns-in-Numbers c = rw (c.in-Numbers.is, ← c.read_lead.ensures, c.in-Ok.is, ← part_rest _ c.args.input.now) c.replays-in-Numbers.ensures
+pub returns-in-Decoded : goal.returns-in-Decoded
+returns-in-Decoded c = rw (c.in-Decoded.is, ← c.read_lead.ensures, c.in-Ok.is, ← part_rest _ c.args.input.now) c.replays.ensures
 
 pub slice_bounds-file-start : goal.slice_bounds-file-start
 slice_bounds-file-start c = omega (arith, lead_inside _ c.read_lead.ensures c.in-Ok.is)
