@@ -208,13 +208,3 @@ pub fn tell(rt: &impl Print, path: &[u8], outcome: Result<Summary, NotRun>) -> i
         Err(NotRun::Failed) => tell_not_run(rt, path, " was not read"),
     }
 }
-
-// Runs the cases of the file at a path, and writes the last line of the run.
-pub fn report(
-    rt: &(impl Files + Print),
-    against: Against,
-    path: &[u8],
-    buf: &mut [u8],
-) -> io::Result<()> {
-    tell(rt, path, run_file(rt, against, path, buf))
-}
