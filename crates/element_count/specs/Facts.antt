@@ -1,7 +1,7 @@
 -- What the proofs of the product cite, and whoever goes on with it. Assumes nothing.
-use Rattle.std.specs.Prelude.{ℕ, suc, ◌+◌, ◌*◌, ◌^◌, ◌≤◌, ◌<◌, ◌≡◌, refl, Bool, true, false, List, [], ◌∷◌, ◌++◌, ltb, length, take, get_or, Option, Some, None}
+use Rattle.std.specs.Prelude.{ℕ, suc, ◌+◌, ◌-◌, ◌*◌, ◌/◌, ◌^◌, ◌≤◌, ◌<◌, ◌≡◌, refl, Bool, true, false, List, [], ◌∷◌, ◌++◌, ltb, length, take, get_or, Option, Some, None}
 use Rattle.std.specs.Option.{SomeIff}
-use Rattle.std.proofs.Common.{ap, sym, ◌∙◌, one-mul, mul-one, mul_assoc, le-mul_of_pos_right, arith, take-suc, ltb-true, ltb-false, lt-ltb, le-ltb}
+use Rattle.std.proofs.Common.{ap, sym, ◌∙◌, one-mul, mul-one, mul_assoc, mul_comm, le-mul_of_pos_right, le-div_iff_mul-le, div-lt_iff_lt-mul, arith, take-suc, ltb-true, ltb-false, lt-ltb, le-ltb}
 use Rattle.records.specs.Elements.{product, count_of}
 
 -- the product of one size more
@@ -14,6 +14,17 @@ pub product_more : (xs : List ℕ) (i : ℕ) → i < length xs → product (take
 product_more xs i h =
     let e : i + 1 ≡ suc i = omega arith in
     rw (e, take-suc xs i 0 h) (sym (product-append (take i xs) (get_or xs i 0)))
+
+-- a product by its factors: too large, and not
+pub too_large : (a b : ℕ) → (a ≡ 0 → ⊥) → (2 ^ 64 - 1) / a < b → 2 ^ 64 ≤ a * b
+too_large a b z h =
+    let l : 2 ^ 64 - 1 < b * a = (div-lt_iff_lt-mul {k = a} {x = 2 ^ 64 - 1} {y = b} (omega arith)).0 h in
+    omega (arith, mul_comm a b)
+
+pub not_too_large : (a b : ℕ) → (a ≡ 0 → ⊥) → b ≤ (2 ^ 64 - 1) / a → a * b < 2 ^ 64
+not_too_large a b z h =
+    let l : b * a ≤ 2 ^ 64 - 1 = (le-div_iff_mul-le {k = a} {x = b} {y = 2 ^ 64 - 1} (omega arith)).0 h in
+    omega (arith, mul_comm a b)
 
 -- a number that fits is the count, and one that does not is too many; and back
 pub count_fits : (n : ℕ) → n < 2 ^ 64 → count_of n ≡ Some n

@@ -1,7 +1,8 @@
 -- The sum one step at a time, and what a stored one that matches is. Assumes nothing.
 use Rattle.std.specs.Prelude.{ℕ, zero, suc, ◌+◌, ◌-◌, ◌*◌, ◌/◌, ◌%◌, ◌^◌, ◌≤◌, ◌<◌, ◌≡◌, refl, true, List, length}
-use Rattle.std.proofs.Common.{ap, sym, ◌∙◌, add-zero, arith, eqb-true, eq-eqb, shr_lt}
+use Rattle.std.proofs.Common.{ap, sym, ◌∙◌, add-zero, mod-lt, arith, eqb-true, eq-eqb, pow-add, pow_pos, shr_lt}
 use Rattle.std.proofs.Math.Nat.{mul-mod_left}
+use Rattle.std.proofs.Math.Arith.{digits_lt}
 use Rattle.std.proofs.lemmas.Nat.{mod-pow-add, shl-shr, or_shifted}
 use Rattle.std.proofs.Math.ListN.{get_or-eq_default}
 use Rattle.std.specs.Int.{rotate_left, w32}
@@ -21,17 +22,26 @@ unfolding sum_of
 sum_some s zero w e h = absurd (e refl)
 sum_some s (suc n) w e h = let d : (suc n - 1) / 12 - 0 ≡ n / 12 = omega arith in rw (d, h)
 
--- at block i of n: one block more, or the last
-pub blocks_more : (s : List ℕ) (i n : ℕ) (w : Words) → i < n → blocks s (12 * i) (n - i) w ≡ blocks s (12 * (i + 1)) (n - (i + 1)) (mix (add_block s (12 * i) w))
+-- by what is left from p: one block more, or the last
+pub blocks_more : (s : List ℕ) (p left : ℕ) (w : Words) → 12 < left → blocks s p ((left - 1) / 12) w ≡ blocks s (p + 12) ((left - 12 - 1) / 12) (mix (add_block s p w))
 unfolding blocks
-blocks_more s i n w h =
+blocks_more s p left w h = let e : (left - 1) / 12 ≡ suc ((left - 12 - 1) / 12) = omega arith in rw e
+
+pub blocks_last : (s : List ℕ) (p left : ℕ) (w : Words) → left ≤ 12 → blocks s p ((left - 1) / 12) w ≡ final_mix (add_block s p w)
+unfolding blocks
+blocks_last s p left w h = let e : (left - 1) / 12 ≡ 0 = omega arith in rw e
+
+-- at block i of n: one block more, or the last
+pub block_more_of : (s : List ℕ) (i n : ℕ) (w : Words) → i < n → blocks s (12 * i) (n - i) w ≡ blocks s (12 * (i + 1)) (n - (i + 1)) (mix (add_block s (12 * i) w))
+unfolding blocks
+block_more_of s i n w h =
     let e : n - i ≡ suc (n - (i + 1)) = omega arith in
     let d : 12 * i + 12 ≡ 12 * (i + 1) = omega arith in
     ap (λ (m : ℕ). blocks s (12 * i) m w) e ∙ ap (λ (p : ℕ). blocks s p (n - (i + 1)) (mix (add_block s (12 * i) w))) d
 
-pub blocks_last : (s : List ℕ) (n : ℕ) (w : Words) → blocks s (12 * n) (n - n) w ≡ final_mix (add_block s (12 * n) w)
+pub block_last_of : (s : List ℕ) (n : ℕ) (w : Words) → blocks s (12 * n) (n - n) w ≡ final_mix (add_block s (12 * n) w)
 unfolding blocks
-blocks_last s n w = let e : n - n ≡ 0 = omega arith in rw e
+block_last_of s n w = let e : n - n ≡ 0 = omega arith in rw e
 
 -- a number past the end is zero, and one that the end cuts is that of the bytes before the end
 pub le_past : (s : List ℕ) (p w : ℕ) → length s ≤ p → le s p w ≡ 0
@@ -45,24 +55,36 @@ le_cut s p k w h l =
     let z = le_past s (p + k) (w - k) (omega arith) in
     ap (λ (x : ℕ). le s p x) e ∙ sym (le_split s p k (w - k)) ∙ rw z (omega arith)
 
+-- a rotated word is a word
+turned : (x j k : ℕ) → x < 2 ^ (k + j) → x * 2 ^ k % 2 ^ (j + k) + x / 2 ^ j < 2 ^ (j + k)
+turned x j k h =
+    let e : x * 2 ^ k % 2 ^ (j + k) ≡ (x % 2 ^ j) * 2 ^ k = mod-pow-add (x * 2 ^ k) j k ∙ rw (shl-shr x k, mul-mod_left x (2 ^ k)) (add-zero _) in
+    rw (e, pow-add 2 j k) (digits_lt (mod-lt x (pow_pos j)) (shr_lt k j h))
+
+pub rotated : (x k : ℕ) → x < 2 ^ 32 → k < 32 → x * 2 ^ k % 2 ^ 32 + x / 2 ^ (32 - k) < 2 ^ 32
+rotated x k h l =
+    let e : 32 - k + k ≡ 32 = omega arith in
+    let f : k + (32 - k) ≡ 32 = omega arith in
+    rw e at (turned x (32 - k) k (rw f h))
+
 -- difference and rotation, as the code's methods compute them: what is shifted out at one end comes in at the other
 pub subtracted : (x y : ℕ) → y < 4294967296 → (x + (4294967296 - y)) % 4294967296 ≡ minus x y
 unfolding minus
 subtracted x y h = let e : x + (4294967296 - y) ≡ x + 4294967296 - y = omega arith in rw e
 
-turned : (x j k : ℕ) → x < 2 ^ (k + j) → bit_or (x * 2 ^ k % 2 ^ (j + k)) (x / 2 ^ j) ≡ x * 2 ^ k % 2 ^ (j + k) + x / 2 ^ j
-turned x j k h =
+or_turned : (x j k : ℕ) → x < 2 ^ (k + j) → bit_or (x * 2 ^ k % 2 ^ (j + k)) (x / 2 ^ j) ≡ x * 2 ^ k % 2 ^ (j + k) + x / 2 ^ j
+or_turned x j k h =
     let e : x * 2 ^ k % 2 ^ (j + k) ≡ (x % 2 ^ j) * 2 ^ k = mod-pow-add (x * 2 ^ k) j k ∙ rw (shl-shr x k, mul-mod_left x (2 ^ k)) (add-zero _) in
     rw e (or_shifted (x % 2 ^ j) k (x / 2 ^ j) (shr_lt k j h))
 
-pub rotated : (x k : ℕ) → x < 2 ^ 32 → 0 < k → k < 32 → rotate_left w32 x k ≡ rotate x k
+pub rotate_is : (x k : ℕ) → x < 2 ^ 32 → 0 < k → k < 32 → rotate_left w32 x k ≡ rotate x k
 unfolding rotate
-rotated x k h l m =
+rotate_is x k h l m =
     let e : 32 - k + k ≡ 32 = omega arith in
     let f : k + (32 - k) ≡ 32 = omega arith in
     let d : k % 32 ≡ k = omega arith in
     let g : (32 - k) % 32 ≡ 32 - k = omega arith in
-    let t = rw e at (turned x (32 - k) k (rw f h)) in
+    let t = rw e at (or_turned x (32 - k) k (rw f h)) in
     rw (d, g) t
 
 -- a whole number's remainder may be taken before

@@ -35,6 +35,14 @@ ends_past e o l h = lt-leb (o + l) e (omega arith)
 pub ends_inside : (end offset length : ℕ) → 8 ≤ length → length ≤ end - offset → leb (offset + length) end ≡ true
 ends_inside e o l f h = le-leb (o + l) e (omega arith)
 
+-- the rest of an entry's size after its fields, by the test of the code
+module _ (b size used : ℕ) where
+  pub rest_none : b ≤ used → size ≤ used - b → b + size - used ≡ 0
+  rest_none h k = omega arith
+
+  pub rest_some : b ≤ used → used - b < size → b + size - used ≡ size - (used - b)
+  rest_some h k = omega arith
+
 -- a position alone is all that a reading with no value has
 pub position_self : (r : Out (Unit {0})) → position_of r ≡ r
 position_self (found u q) = refl

@@ -1,10 +1,20 @@
 -- What the proofs of the readers cite. Assumes nothing.
-use Rattle.std.specs.Prelude.{ℕ, ◌≤◌, ◌<◌, ◌≡◌, ◌⊎◌, refl, Bool, true, false, ◌||◌, eqb}
+use Rattle.std.specs.Prelude.{ℕ, ◌≤◌, ◌<◌, ◌≡◌, ◌⊎◌, refl, Bool, true, false, not, ◌||◌, eqb}
 use Rattle.std.proofs.Common.{inl, inr, arith, eq-eqb, ne_eqb}
-use Rattle.std.proofs.lemmas.Bool.{eqb-false}
+use Rattle.std.proofs.lemmas.Bool.{eqb-false, not-false}
 
 -- one of two numbers, or neither, by the tests of the code
 module _ (v a b : ℕ) where
+  pub first_of : v ≡ a → (eqb v a || eqb v b) ≡ true
+  first_of e = rw (eq-eqb v a e)
+
+  pub second_of : not (eqb v b) ≡ false → (eqb v a || eqb v b) ≡ true
+  second_of e = go (eqb v a)
+    where
+      go : (t : Bool) → (t || eqb v b) ≡ true
+      go true = refl
+      go false = not-false (eqb v b) e
+
   pub one_of : ((v ≡ a → ⊥) × (v ≡ b)) ⊎ (v ≡ a) → (eqb v a || eqb v b) ≡ true
   one_of (inl (n, e)) = rw (ne_eqb v a n, eq-eqb v b e)
   one_of (inr e) = rw (eq-eqb v a e)

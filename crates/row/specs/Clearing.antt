@@ -1,10 +1,30 @@
--- A table that is zero behind the rows that it holds. Assumes nothing.
-use Rattle.std.specs.Prelude.{ℕ, ◌-◌, ◌*◌, ◌≡◌, List, ◌++◌, length, take, drop, replicate}
-use Rattle.std.proofs.Common.{arith}
+-- A table that is zero from a place on: one word more at a time, and behind the rows that it holds. Assumes nothing.
+use Rattle.std.specs.Prelude.{ℕ, suc, ◌+◌, ◌-◌, ◌*◌, ◌≤◌, ◌<◌, ◌≡◌, List, [], ◌∷◌, ◌++◌, length, get_or, take, drop, set, replicate}
+use Rattle.std.proofs.Common.{sym, ap, ap₂, ◌∙◌, append_assoc, arith, length-append, length-take, take-append-drop, drop-cons}
+use Rattle.std.proofs.lemmas.List.{length-replicate, replicate-append-replicate, set_at}
 use Rattle.std.proofs.Math.Seq.{take-append_seam}
 use Rattle.row.specs.declared.Row.{Row}
 use Rattle.row.specs.Rows.{row_words, encode}
 use Rattle.row.specs.RowLaws.{length-encode}
+
+-- zero from a place on up to i: none of it yet, and one word more
+pub cleared_none : (t : List ℕ) (from : ℕ) → t ≡ take from t ++ (replicate (from - from) 0 ++ drop from t)
+cleared_none t from = let e : from - from ≡ 0 = omega arith in rw e (sym (take-append-drop from t))
+
+pub cleared_more : (t : List ℕ) (from i : ℕ) → from ≤ i → i < length t
+    → set (take from t ++ (replicate (i - from) 0 ++ drop i t)) i 0 ≡ take from t ++ (replicate (i + 1 - from) 0 ++ drop (i + 1) t)
+cleared_more t from i h l =
+    let a = take from t in
+    let z = replicate {A = ℕ} (i - from) 0 in
+    let y = get_or t i 0 in
+    let ys = drop (suc i) t in
+    let n : length (a ++ z) ≡ i = omega (arith, length-append a z, length-take from t, length-replicate {A = ℕ} (i - from) 0) in
+    let d : i - from + 1 ≡ i + 1 - from = omega arith in
+    let e : suc i ≡ i + 1 = omega arith in
+    ap (λ (x : List ℕ). set (a ++ (z ++ x)) i 0) (drop-cons t i 0 l) ∙ ap (λ (x : List ℕ). set x i 0) (sym (append_assoc a z (y ∷ ys)))
+    ∙ set_at (a ++ z) y ys 0 i n ∙ append_assoc a z (0 ∷ ys)
+    ∙ ap (λ (x : List ℕ). a ++ x) (sym (append_assoc z (0 ∷ []) ys) ∙ ap (λ (x : List ℕ). x ++ ys) (replicate-append-replicate {A = ℕ} (i - from) 1 0)
+    ∙ ap₂ (λ (j k : ℕ). replicate j 0 ++ drop k t) d e)
 
 -- a table of n words after rows: their words, then zeros
 abbrev pub table : ℕ → List Row → List ℕ

@@ -1,5 +1,5 @@
 -- Laws of comparing. Assumes nothing.
-use Rattle.std.specs.Prelude.{ℕ, ◌+◌, ◌<◌, ◌≡◌, refl, Bool, true, false, List, [], ◌∷◌, ◌++◌, length, drop, leb, Option, Some, None}
+use Rattle.std.specs.Prelude.{ℕ, ◌+◌, ◌-◌, ◌<◌, ◌≡◌, refl, Bool, true, false, List, [], ◌∷◌, ◌++◌, length, drop, leb, Option, Some, None}
 use Rattle.std.proofs.Common.{sym, ap, ◌∙◌, append_assoc, append-nil, arith, length-append, length-drop, drop_of_length-le, drop-drop, leb-true, le-leb}
 use Rattle.std.proofs.lemmas.Bool.{false≢true}
 use Rattle.std.proofs.lemmas.List.{append_cancel_left}
@@ -40,9 +40,13 @@ module _ (s xs : List ℕ) (p : ℕ) where
       empty [] e = refl
       empty (x ∷ l) e = absurd (omega arith)
 
+  -- too few bytes are left
+  pub too_few : length s - p < length xs → Follows s (Some p) None xs
+  too_few h = record { meets = λ zs e. omega (arith, length-drop p s, ap length e, length-append xs zs) }
+
   -- the place is behind the end
-  pub too_few : length s < p → (length xs ≡ 0 → ⊥) → Follows s (Some p) None xs
-  too_few h k = record { meets = λ zs e. omega (arith, length-drop p s, ap length e, length-append xs zs) }
+  pub behind_end : length s < p → (length xs ≡ 0 → ⊥) → Follows s (Some p) None xs
+  behind_end h k = record { meets = λ zs e. omega (arith, length-drop p s, ap length e, length-append xs zs) }
 
   -- what is left begins with xs, or not
   module _ (rest : List ℕ) (r : rest ≡ between p (length s) s) (b : Bool) (h : b ≡ starts_with eqb rest xs) where

@@ -5,7 +5,7 @@ use lib.ListN.{length}
 use native.Mathlib.Omega.{arith}
 use Prim.Native.Nat.{◌-◌, ◌/◌}
 use mathlib.Core.Path.{◌≡◌, sym, ap, ◌∙◌}
-use Rattle.lookup3.specs.Laws.{sum_none, sum_some, blocks_more, blocks_last}
+use Rattle.lookup3.specs.Laws.{sum_none, sum_some, block_more_of, block_last_of}
 use Rattle.lookup3.proofs.lookup3.Goals as goal
 
 pub returns-then-length-eq0 : goal.returns-then-length-eq0
@@ -16,10 +16,10 @@ loop-i-init c = sum_some c.args.part.now (length c.args.part.now) c.start-w.resu
 
 pub loop-i-preserved : goal.loop-i-preserved
 loop-i-preserved c = let p = c.args.part.now in
-    c.loop-i.invariant ∙ blocks_more p c.loop-i.i ((length p - 1) / 12) c.loop-i.w c.loop-i-test.true ∙ rw (← c.add_block.ensures, ← c.mix-w.ensures)
+    c.loop-i.invariant ∙ block_more_of p c.loop-i.i ((length p - 1) / 12) c.loop-i.w c.loop-i-test.true ∙ rw (← c.add_block.ensures, ← c.mix-w.ensures)
 
 pub returns : goal.returns
 returns c =
     let p = c.args.part.now in
     let e : c.loop-i.i ≡ (length p - 1) / 12 = omega arith in
-    c.final_mix.ensures ∙ ap final_mix c.add_last.ensures ∙ sym (rw e at c.loop-i.invariant ∙ blocks_last p ((length p - 1) / 12) c.loop-i.w)
+    c.final_mix.ensures ∙ ap final_mix c.add_last.ensures ∙ sym (rw e at c.loop-i.invariant ∙ block_last_of p ((length p - 1) / 12) c.loop-i.w)
